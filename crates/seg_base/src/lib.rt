@@ -1,0 +1,29 @@
+//! What every crate of the store speaks of: numbers of things, names and texts, slots, free classes, places in
+//! the data file, number fields, lists, and the plain errors.
+#![tactic(auto)]
+
+mod class;
+mod ended;
+mod failure;
+mod field;
+mod gate;
+mod list;
+mod number;
+mod shape;
+mod slot;
+#[cfg(test)]
+mod tests;
+mod text;
+mod word;
+
+pub use class::{Class, class_code, class_from, class_of};
+pub use ended::Ended;
+pub use failure::{Failed, NoMemory};
+pub use field::{get_u16, get_u32, get_u64, put_u16, put_u32, put_u64, what_is_put_is_got};
+pub use gate::{Gate, Open};
+pub use list::{Newest, Sequence};
+pub use number::{Dba, Lsn, Obj, RowNo, Scn, TxnId};
+pub use shape::{Shape, place_of};
+pub use slot::{Kind, ListEntry, Rowid, Slot, Taker, UndoAddr, Writer};
+pub use text::Text;
+pub use word::{Name, is_name};

@@ -30,9 +30,21 @@ fn fields_and_names(rt: HostRuntime) -> Result<(), Fail> {
     put_u16(&mut bytes, 0x0102)?;
     put_u32(&mut bytes, 0x0304_0506)?;
     put_u64(&mut bytes, 0x0708_090a_0b0c_0d0e)?;
+    let expected = [1u8, 2, 3, 4, 5, 6, 7, 8, 9, 10, 11, 12, 13, 14];
+    assert_eq!(rt; bytes.as_slice(), expected.as_slice());
+    let mut numbers = Newest::new(alloc);
+    numbers.push(1)?;
+    numbers.push(2)?;
+    assert_eq!(rt; numbers.as_slice(), [1, 2].as_slice());
+    let mut same = Sequence::new(alloc);
+    same.push(7)?;
     assert_eq!(rt;
-        bytes.as_slice(),
-        &[1, 2, 3, 4, 5, 6, 7, 8, 9, 10, 11, 12, 13, 14]
+        Sequence::from_vec(same.into_vec()).as_slice(),
+        [7].as_slice()
+    );
+    assert_eq!(rt;
+        Text::copy(alloc, b"ab")?.duplicate(alloc)?.as_slice(),
+        b"ab".as_slice()
     );
     assert_eq!(rt; get_u16(&bytes, 0), Some(0x0102));
     assert_eq!(rt; get_u32(&bytes, 2), Some(0x0304_0506));

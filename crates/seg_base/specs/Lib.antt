@@ -5,3 +5,4 @@ pub mod Fields
 pub mod Blocks
 pub mod Room
 pub mod Cleaning
+pub mod Faults

@@ -1,0 +1,4 @@
+pub mod Alike
+pub mod Fronts
+pub mod PiecesIn
+pub mod SlotsAgain

@@ -1,0 +1,5 @@
+pub mod Pages
+pub mod Pieces
+pub mod Slots
+pub mod Entries
+pub mod EntriesAgain

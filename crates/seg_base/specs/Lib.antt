@@ -6,3 +6,4 @@ pub mod Blocks
 pub mod Room
 pub mod Cleaning
 pub mod Faults
+pub mod Images

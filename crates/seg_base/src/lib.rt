@@ -7,6 +7,7 @@ mod ended;
 mod failure;
 mod field;
 mod gate;
+mod image;
 mod list;
 mod number;
 mod shape;
@@ -14,6 +15,7 @@ mod slot;
 #[cfg(test)]
 mod tests;
 mod text;
+mod undo;
 mod word;
 
 pub use class::{Class, class_code, class_from, class_of};
@@ -21,9 +23,14 @@ pub use ended::Ended;
 pub use failure::{Failed, NoMemory};
 pub use field::{get_u16, get_u32, get_u64, put_u16, put_u32, put_u64, what_is_put_is_got};
 pub use gate::{Gate, Open};
+pub use image::{
+    kind_code, kind_from, link_or_zeros, slot_bytes, undo_or_zeros, writer_from, writer_number,
+    writer_tag,
+};
 pub use list::{Newest, Sequence};
 pub use number::{Dba, Lsn, Obj, RowNo, Scn, TxnId};
 pub use shape::{Shape, place_of};
 pub use slot::{Kind, ListEntry, Rowid, Slot, Taker, UndoAddr, Writer};
 pub use text::Text;
+pub use undo::UndoPlace;
 pub use word::{Name, is_name};

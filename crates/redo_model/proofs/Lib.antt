@@ -1,0 +1,5 @@
+pub mod Cleaned
+pub mod LawfulRuns
+pub mod NotAllowed
+pub mod Bridge
+pub mod Computing

@@ -1,0 +1,14 @@
+pub mod LowMark
+pub mod Adding
+pub mod Ordinals
+pub mod Every
+pub mod OnTop
+pub mod Facts
+pub mod Known
+pub mod Stays
+pub mod Held
+pub mod Spread
+pub mod Views
+pub mod Union
+pub mod Basics
+pub mod Economy

@@ -1,0 +1,5 @@
+use Rattle.redo_laws.proofs.Adding as laws
+use Rattle.redo_laws.proofs.first.moves_keep_tables.Goals as goal
+
+pub returns : goal.returns
+returns c = laws.moves_keep_tables

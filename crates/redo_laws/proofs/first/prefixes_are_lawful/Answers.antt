@@ -1,0 +1,5 @@
+use Rattle.redo_laws.proofs.Adding as laws
+use Rattle.redo_laws.proofs.first.prefixes_are_lawful.Goals as goal
+
+pub returns : goal.returns
+returns c = laws.prefixes_are_lawful

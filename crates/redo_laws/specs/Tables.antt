@@ -1,0 +1,38 @@
+-- Laws on tables and marks: the low-mark rule, the view without a transaction, that records name tables that are there,
+-- and that the first records of a lawful list are lawful.
+use Rattle.std.specs.Prelude.{◌≡◌, ℕ, ◌≤◌, true, List, take, Option, Some, None}
+use Rattle.seg_base.specs.declared.shape.Shape.{Shape}
+use Rattle.redo_record.specs.declared.record.Record.{Record}
+use Rattle.redo_record.specs.declared.record.Record.TheVariants.{Movement, Extend, FormatBlock, Class, Advance, Lower, Insert, Update, Migrate, Return, Delete, Move}
+use Rattle.redo_model.specs.Lists.{prefix}
+use Rattle.redo_model.specs.Segments.{IsTable, data_blocks, low_mark, first_unformatted}
+use Rattle.redo_model.specs.Lawful.{AreAllowed, IsAllowed, IsLawful, is_whole}
+
+-- each block of a table at a position below its low mark is formatted
+abbrev pub LowMarkRule : Type 0
+LowMarkRule =
+    (sh : Shape) (R : List Record) (o : ℕ) → AreAllowed sh R → 1 ≤ o → o ≤ 32
+    → first_unformatted sh R (take (low_mark R o) (data_blocks sh R o)) ≡ None
+
+-- the first records of a lawful list, unless they end with a Table or a Reuse, are lawful
+abbrev pub PrefixesAreLawful : Type 0
+PrefixesAreLawful = (sh : Shape) (R : List Record) (n : ℕ) → IsLawful sh R → is_whole (prefix R n) ≡ true → IsLawful sh (prefix R n)
+
+-- the table that a record names, where it names one that is to be there
+abbrev pub table_of : Record → Option ℕ
+table_of (Movement m) = Some m.obj
+table_of (Extend e) = Some e.obj
+table_of (FormatBlock f) = Some f.obj
+table_of (Class k) = Some k.obj
+table_of (Advance a) = Some a.obj
+table_of (Lower l) = Some l.obj
+table_of (Insert w) = Some w.obj
+table_of (Update w) = Some w.obj
+table_of (Migrate w) = Some w.obj
+table_of (Return w) = Some w.obj
+table_of (Delete w) = Some w.obj
+table_of (Move m) = Some m.obj
+table_of _ = None
+
+abbrev pub RecordsNameTables : Type 0
+RecordsNameTables = (sh : Shape) (R : List Record) (r : Record) (o : ℕ) → IsAllowed sh R r → table_of r ≡ Some o → IsTable R o

@@ -1,0 +1,39 @@
+// The first laws: numbers, tables and marks, and what one more record does.
+ghost use Rattle.redo_laws.specs.Added.{ImagesAfterOne, MovesKeepTables, OthersAreLeft};
+ghost use Rattle.redo_laws.specs.Numbers.{NumbersAreGivenOnce};
+ghost use Rattle.redo_laws.specs.Tables.{LowMarkRule, PrefixesAreLawful, RecordsNameTables};
+
+/// Every block of a table at a position below its low mark is formatted.
+pub fn low_mark_rule()
+    ensures { LowMarkRule }
+{}
+
+/// The first records of a lawful list are lawful, unless a Table or a Reuse is the last of them.
+pub fn prefixes_are_lawful()
+    ensures { PrefixesAreLawful }
+{}
+
+/// A record names only tables that are there.
+pub fn records_name_tables()
+    ensures { RecordsNameTables }
+{}
+
+/// A row number, a transaction number, a commit number and a lowering are each given once, from 1 on.
+pub fn numbers_are_given_once()
+    ensures { NumbersAreGivenOnce }
+{}
+
+/// A record leaves the slots and entries of each block that it doesn't name.
+pub fn others_are_left()
+    ensures { OthersAreLeft }
+{}
+
+/// A Move changes no table at any commit number.
+pub fn moves_keep_tables()
+    ensures { MovesKeepTables }
+{}
+
+/// What a FormatBlock and a Clean leave in each slot of their block.
+pub fn images_after_one()
+    ensures { ImagesAfterOne }
+{}

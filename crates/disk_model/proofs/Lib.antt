@@ -1,0 +1,10 @@
+pub mod Kept
+pub mod Overwritten
+pub mod Moments
+pub mod Pick
+pub mod Going
+pub mod Keeping
+pub mod OneFile
+pub mod Rows
+pub mod WriteAndSync
+pub mod Stop

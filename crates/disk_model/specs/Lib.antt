@@ -1,0 +1,10 @@
+pub mod Files
+pub mod Crash
+pub mod Only
+pub mod History
+pub mod Memory
+pub mod AsRead
+pub mod Short
+pub mod Picked
+pub mod Stopping
+pub mod Contents

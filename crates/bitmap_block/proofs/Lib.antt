@@ -1,0 +1,3 @@
+pub mod BestOf
+pub mod Reading
+pub mod Forms

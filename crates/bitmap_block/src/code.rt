@@ -1,0 +1,24 @@
+// Class codes as a page has them.
+ghost use Rattle.std.specs.Prelude.{◌≡◌, ◌<◌, ◌≤◌, ◌^◌, ◌+◌, length, take, drop};
+ghost use Rattle.bitmap_block.specs.Codes.{codes_in, AreCodes};
+
+/// Reads as many codes as there is room for, each as the nearest that there is.
+#[tactic(auto, using(crate::proofs::Reading::none_read, crate::proofs::Reading::read_next, crate::proofs::Reading::all_read))]
+pub fn read_codes(bytes: &[u8], codes: &mut [u8])
+    requires { length codes.old ≤ length bytes.now }
+    ensures codes { codes.new ≡ codes_in (length codes.old) bytes.now }
+    ensures range { AreCodes codes.new }
+{
+    for i in 0..codes.len() {
+        codes[i] = bytes[i].min(5);
+    }
+}
+
+/// Numbers of these types are in their ranges.
+pub fn in_range(dba: u32, lsn: u64, incarnation: u64)
+    ensures dba { dba < 2 ^ 32 }
+    ensures lsn { lsn < 2 ^ 64 }
+    ensures incarnation { incarnation < 2 ^ 64 }
+{
+    let _numbers = (dba, lsn, incarnation);
+}

@@ -1,0 +1,13 @@
+pub mod Cuts
+pub mod Numbers
+pub mod Scripts
+pub mod Drafts
+pub mod LabelSets
+pub mod Spellings
+pub mod NewestItems
+pub mod Maps
+pub mod Views
+pub mod Stores
+pub mod Acts
+pub mod Histories
+pub mod Texts

@@ -1,0 +1,39 @@
+-- Which record may follow which.
+use Rattle.std.specs.Prelude.{◌≡◌, ℕ, ◌+◌, ◌<◌, ◌≤◌, true, List, [], ◌∷◌, length, Some, None}
+use Rattle.assm.specs.declared.record.Record.{Record}
+use Rattle.assm.specs.declared.record.Record.TheVariants.{Table, Begin, Insert, Commit, Ended}
+use Rattle.assm.specs.Redo.{commit_count, row_count, transaction_count, table_count, active_in, named, is_there}
+
+pub record TableAllowed (obj : ℕ) (name : List ℕ) (pctfree : ℕ) (R : List Record) : Type 0 where
+  pub is_new : named name R ≡ None
+  pub few : table_count R < 32
+  pub share : pctfree ≤ 50
+  pub number : obj ≡ table_count R + 1
+
+pub record BeginAllowed (txn : ℕ) (R : List Record) : Type 0 where
+  pub idle : active_in R ≡ None
+  pub number : txn ≡ transaction_count R + 1
+
+pub record InsertAllowed (txn obj row : ℕ) (bytes : List ℕ) (R : List Record) : Type 0 where
+  pub active : active_in R ≡ Some txn
+  pub table : is_there obj R ≡ true
+  pub number : row ≡ row_count R + 1
+  pub some : 1 ≤ length bytes
+  pub short : length bytes ≤ 1800
+
+pub record CommitAllowed (txn number : ℕ) (R : List Record) : Type 0 where
+  pub active : active_in R ≡ Some txn
+  pub ordinal : number ≡ commit_count R + 1
+
+-- the record may stand after these
+abbrev pub IsAllowed : Record → List Record → Type 0
+IsAllowed (Table obj name pctfree) R = TableAllowed obj name pctfree R
+IsAllowed (Begin txn) R = BeginAllowed txn R
+IsAllowed (Insert txn obj row bytes) R = InsertAllowed txn obj row bytes R
+IsAllowed (Commit txn number) R = CommitAllowed txn number R
+IsAllowed (Ended txn) R = active_in R ≡ Some txn
+
+-- each record may stand after those before it
+abbrev pub IsLawful : List Record → Type 0
+IsLawful [] = Unit {0}
+IsLawful (r ∷ R) = IsAllowed r R × IsLawful R

@@ -1,0 +1,16 @@
+pub mod Bytes
+pub mod Script
+pub mod Parsed
+pub mod Spelled
+pub mod Redo
+pub mod Tables
+pub mod Lawful
+pub mod Means
+pub mod Kept
+pub mod Walked
+pub mod Drafted
+pub mod Lines
+pub mod Legal
+pub mod Runs
+pub mod Status
+pub mod Top

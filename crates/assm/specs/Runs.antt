@@ -1,0 +1,71 @@
+-- One statement after the other, and the lines that a sink takes.
+use Rattle.std.specs.Prelude.{◌≡◌, ℕ, ◌≤◌, ◌⊎◌, List, [], ◌∷◌, length, Option, None}
+use Rattle.std.specs.Io.KnownBytes.{Appends}
+use Rattle.text_port.specs.Whole.{AppendsPrefix}
+use Rattle.assm.specs.declared.record.Record.{Record}
+use Rattle.assm.specs.declared.statement.Statement.{Statement}
+use Rattle.assm.specs.declared.entry.Outcome.{Outcome}
+use Rattle.assm.specs.declared.entry.Start.{Start}
+use Rattle.assm.specs.declared.entry.Entry.{Entry}
+use Rattle.assm.specs.declared.entry.HistoryItem.{HistoryItem}
+use Rattle.assm.specs.declared.entry.HistoryItem.TheVariants as item
+use Rattle.assm.specs.Redo.{active_in}
+use Rattle.assm.specs.Lawful.{IsLawful}
+use Rattle.assm.specs.Legal.{IsLegal, under_way, last_of, entry_count, last_moment}
+use Rattle.assm.specs.Lines.{text_of, entry_text}
+use Rattle.assm.specs.Spelled.{IsStatement}
+
+abbrev pub AreStatements : List Statement → Type 0
+AreStatements [] = Unit {0}
+AreStatements (s ∷ rest) = IsStatement s × AreStatements rest
+
+-- the start of session 1 where the records are R
+abbrev pub start_at : List Record → Start
+start_at R = record { session = 1; begins = length R }
+
+-- the entry of session 1 for what was done between the records R and R'
+abbrev pub entry_at : Option ℕ → ℕ → List Record → List Record → Outcome → Entry
+entry_at ordinal moment R R' outcome = record { session = 1; ordinal = ordinal; begins = length R; ends = length R'; moment = moment; outcome = outcome }
+
+-- A step of session 1 adds a start and an entry, of what it did to the records.
+pub record Steps (ordinal : Option ℕ) (Means : Outcome → Type 0) (moment : ℕ) (R R' : List Record) (T T' : List HistoryItem) : Type 0 where
+  pub outcome : Outcome
+  pub history : T' ≡ item.Entry (entry_at ordinal moment R R' outcome) ∷ item.Start (start_at R) ∷ T
+  pub lawful : IsLawful R'
+  pub means : Means outcome
+
+-- the sink took the newest entry's lines
+abbrev pub AppendsNewest : Option (List ℕ) → Option (List ℕ) → List HistoryItem → Type 0
+AppendsNewest old new (item.Entry entry ∷ T) = Appends old new (entry_text entry)
+AppendsNewest old new T = ⊥
+
+-- the sink took some first part of them
+abbrev pub CutsNewest : Option (List ℕ) → Option (List ℕ) → List HistoryItem → Type 0
+CutsNewest old new (item.Entry entry ∷ T) = AppendsPrefix old new (entry_text entry)
+CutsNewest old new T = ⊥
+
+-- A step that stopped: nothing was entered and nothing written, or the entry was made and its lines cut.
+abbrev pub Stops : Option (List ℕ) → Option (List ℕ) → List Record → List HistoryItem → List HistoryItem → Type 0 → Type 0
+Stops old new R T T' Step = ((T' ≡ T) × (new ≡ old)) ⊎ (((T' ≡ item.Start (start_at R) ∷ T) × (new ≡ old)) ⊎ (Step × CutsNewest old new T'))
+
+-- the session's end, where no transaction is active
+pub record NothingEnds (old new : Option (List ℕ)) (R R' : List Record) (T T' : List HistoryItem) : Type 0 where
+  pub idle : active_in R ≡ None
+  pub records : R' ≡ R
+  pub history : T' ≡ T
+  pub written : new ≡ old
+
+-- a run that stopped: what is legal, and when the last entry was made
+pub record Stopped (script : List Statement) (R0 : List Record) (clock : ℕ) (T : List HistoryItem) : Type 0 where
+  pub records : List Record
+  pub legal : IsLegal script R0 records T
+  pub time : last_moment T ≤ clock
+
+-- all of it ran: each statement has its entry, nothing is under way or active, and the sink took the whole text
+pub record Finished (old new : Option (List ℕ)) (script : List Statement) (R0 : List Record) (clock : ℕ) (R : List Record) (T : List HistoryItem) : Type 0 where
+  pub legal : IsLegal script R0 R T
+  pub took : Appends old new (text_of T)
+  pub each : length script ≤ entry_count 1 T
+  pub idle : under_way (last_of 1 T) ≡ None
+  pub closed : active_in R ≡ None
+  pub time : last_moment T ≤ clock

@@ -1,0 +1,4 @@
+pub mod Extents
+pub mod Forms
+pub mod Searching
+pub mod Headings

@@ -1,0 +1,153 @@
+// The catalogue, block 2.
+ghost use Rattle.std.specs.Prelude.{◌≡◌, ◌≤◌, ◌+◌, ◌<◌, length, IfSome, position};
+ghost use Rattle.segment_blocks.specs.Catalogues.{has_table, header_in, header_of, is_named, spelling_of_tables, table_count, table_named};
+
+use crate::entry::{CatalogueEntry, TableEntry};
+use page_bytes::{PageForm, add, add_all, begin, head_bytes, number_u32, number_u64, read_all};
+use seg_base::{Dba, Lsn, Name, NoMemory, Obj};
+use std::alloc::Global;
+use std::marker::Model;
+
+const KIND: u8 = 3;
+
+/// The tables of a store by name: an entry for each number of a table, 1 to 32.
+#[derive(Debug, Drop)]
+pub struct Catalogue {
+    dba: Dba,
+    lsn: Lsn,
+    entries: Vec<CatalogueEntry>,
+}
+
+impl Model for Catalogue {
+    ghost use Rattle.std.specs.Prelude.{◌≡◌, length};
+    ghost use Rattle.segment_blocks.specs.Catalogues.{Tables};
+
+    ghost Value = { Tables };
+
+    ghost view = { λ c. record { dba = c.dba; lsn = c.lsn; entries = c.entries.items } };
+
+    ghost invariant = { λ c. length c.entries.items ≡ 32 };
+}
+
+fn has_table(entry: &CatalogueEntry) -> bool
+    ensures { result ≡ has_table entry.now }
+{
+    match &entry.table {
+        None => false,
+        Some(_) => true,
+    }
+}
+
+fn is_named(entry: &CatalogueEntry, name: &[u8]) -> bool
+    ensures { result ≡ is_named name.now entry.now }
+{
+    match &entry.table {
+        None => false,
+        Some(table) => table.name.as_slice() == name,
+    }
+}
+
+fn header(entry: &CatalogueEntry) -> Option<Dba>
+    ensures { result ≡ header_in entry.now.table }
+{
+    match &entry.table {
+        None => None,
+        Some(table) => Some(table.header),
+    }
+}
+
+fn place_named(entries: &[CatalogueEntry], name: &[u8]) -> Option<usize>
+    ensures place { result ≡ position (is_named name.now) entries.now }
+    ensures bound { IfSome result (λ i. i < length entries.now) }
+{
+    entries.iter().position(|e| is_named(e, name))
+}
+
+#[tactic(auto, using(crate::proofs::Headings::header_beyond, crate::proofs::Headings::header_there))]
+fn header_of(entries: &[CatalogueEntry], number: u8) -> Option<Dba>
+    ensures { result ≡ header_of entries.now number }
+{
+    if number == 0 {
+        return None;
+    }
+    let at = usize::from(number) - 1;
+    if at >= entries.len() {
+        return None;
+    }
+    header(&entries[at])
+}
+
+impl Catalogue {
+    pub fn dba(&self) -> Dba
+        ensures { result ≡ self.now.dba }
+    {
+        self.dba
+    }
+
+    pub fn lsn(&self) -> Lsn
+        ensures { result ≡ self.now.lsn }
+    {
+        self.lsn
+    }
+
+    /// The table with this name.
+    pub fn table(&self, name: &Name) -> Option<Obj>
+        ensures { result ≡ table_named self.now.entries name.now }
+    {
+        match place_named(&self.entries, name.as_slice()) {
+            None => None,
+            Some(at) => Some(Obj(at as u8 + 1)),
+        }
+    }
+
+    /// How many tables there are.
+    pub fn tables(&self) -> u8
+        ensures { result ≡ table_count self.now.entries }
+    {
+        self.entries.iter().filter(|e| has_table(e)).count() as u8
+    }
+
+    /// The block of a table's header, None exactly where the table isn't there.
+    pub fn header(&self, obj: Obj) -> Option<Dba>
+        ensures { result ≡ header_of self.now.entries obj }
+    {
+        header_of(&self.entries, obj.0)
+    }
+}
+
+impl PageForm for Catalogue {
+    ghost use Rattle.segment_blocks.specs.Catalogues.{spelling_of_tables, tables_in, IsCatalogue};
+    ghost use Rattle.segment_blocks.specs.CatalogueAgain.{tables_again};
+
+    ghost spelling = { spelling_of_tables };
+
+    ghost meaning = { tables_in };
+
+    ghost HasSpelling = { IsCatalogue };
+
+    #[tactic(auto, unfolding(crate::specs::Catalogues::tables_in))]
+    fn read(alloc: Global, bytes: &[u8; 4096]) -> Result<Catalogue, NoMemory> {
+        let (_, rest) = bytes.split_at(16);
+        let entries = read_all(alloc, 32, rest)?;
+        Ok(Catalogue {
+            dba: Dba(number_u32(bytes, 4)),
+            lsn: Lsn(number_u64(bytes, 8)),
+            entries,
+        })
+    }
+
+    fn write(&self, out: &mut [u8; 4096]) {
+        write_page(self.dba, self.lsn, &self.entries, out);
+    }
+
+    ghost reads_again = { tables_again };
+}
+
+fn write_page(dba: Dba, lsn: Lsn, entries: &[CatalogueEntry], out: &mut [u8; 4096])
+    requires { length entries.now ≤ 32 }
+    ensures { out.new ≡ spelling_of_tables (record { dba = dba; lsn = lsn; entries = entries.now }) }
+{
+    let start = begin(out);
+    let entries_at = add(out, start, &head_bytes(KIND, 0, 0, dba, lsn));
+    add_all(out, entries_at, entries);
+}

@@ -1,0 +1,257 @@
+// A segment's header.
+ghost use Rattle.std.specs.Prelude.{◌≡◌, ◌≤◌, ◌^◌, ◌<◌, [], false, List, ℕ, length, IfOk};
+ghost use Rattle.segment_blocks.specs.Headers.{Header, flag, fields_of, is_on, obj_in, extent_at, header_with, spelling_of_header};
+
+use crate::extent::ExtentNumber;
+use page_bytes::{
+    PageForm, add, add_all, begin, head_bytes, number_u16, number_u32, number_u64, read_all,
+};
+use seg_base::{Dba, Lsn, NoMemory, Obj};
+use std::alloc::Global;
+use std::marker::Model;
+
+const KIND: u8 = 10;
+
+/// The header of a table's segment.
+#[derive(Debug, Drop)]
+pub struct SegmentHeader {
+    dba: Dba,
+    lsn: Lsn,
+    obj: Obj,
+    pctfree: u8,
+    movement: bool,
+    low: u32,
+    high: u32,
+    extents: Vec<ExtentNumber>,
+}
+
+impl Model for SegmentHeader {
+    ghost use Rattle.std.specs.Prelude.{◌≤◌, length};
+    ghost use Rattle.segment_blocks.specs.Headers.{Header, HasLimits};
+
+    ghost Value = { Header };
+
+    ghost view = { λ h. record { dba = h.dba; lsn = h.lsn; obj = h.obj; pctfree = h.pctfree; movement = h.movement; low = h.low; high = h.high; extents = h.extents.items } };
+
+    ghost invariant = { λ h. HasLimits h.obj h.pctfree (length h.extents.items) };
+}
+
+impl SegmentHeader {
+    /// The header of a table without an extent, whose marks are 0 and whose rows may not be moved.
+    pub fn new(alloc: Global, dba: Dba, obj: Obj, pctfree: u8) -> SegmentHeader
+        requires least { 1 ≤ obj }
+        requires most { obj ≤ 32 }
+        requires pctfree { pctfree ≤ 50 }
+        ensures { result ≡ record { dba = dba; lsn = 0; obj = obj; pctfree = pctfree; movement = false; low = 0; high = 0; extents = [] } }
+    {
+        SegmentHeader {
+            dba,
+            lsn: Lsn(0),
+            obj,
+            pctfree,
+            movement: false,
+            low: 0,
+            high: 0,
+            extents: Vec::new(alloc),
+        }
+    }
+
+    pub fn dba(&self) -> Dba
+        ensures { result ≡ self.now.dba }
+    {
+        self.dba
+    }
+
+    pub fn lsn(&self) -> Lsn
+        ensures { result ≡ self.now.lsn }
+    {
+        self.lsn
+    }
+
+    pub fn obj(&self) -> Obj
+        ensures { result ≡ self.now.obj }
+    {
+        self.obj
+    }
+
+    pub fn pctfree(&self) -> u8
+        ensures value { result ≡ self.now.pctfree }
+        ensures range { result ≤ 50 }
+    {
+        self.pctfree
+    }
+
+    /// Whether the table's rows may be moved.
+    pub fn movement(&self) -> bool
+        ensures { result ≡ self.now.movement }
+    {
+        self.movement
+    }
+
+    /// The low and the high water mark, in data blocks.
+    pub fn marks(&self) -> (u32, u32)
+        ensures low { result.0 ≡ self.now.low }
+        ensures high { result.1 ≡ self.now.high }
+    {
+        (self.low, self.high)
+    }
+
+    /// How many extents the table has.
+    pub fn extents(&self) -> u16
+        ensures count { result ≡ length self.now.extents }
+        ensures range { result ≤ 900 }
+    {
+        self.extents.len() as u16
+    }
+
+    /// The number of the extent at an index, None exactly from `extents()` on.
+    #[tactic(auto, using(crate::proofs::Extents::extent_at_none, crate::proofs::Extents::extent_at_some))]
+    pub fn extent_at(&self, index: u16) -> Option<u32>
+        ensures { result ≡ extent_at self.now.extents index }
+    {
+        let at = usize::from(index);
+        if at >= self.extents.len() {
+            return None;
+        }
+        let number = self.extents[at];
+        Some(number.0)
+    }
+}
+
+impl PageForm for SegmentHeader {
+    ghost use Rattle.segment_blocks.specs.Headers.{spelling_of_header, header_in, IsHeader};
+    ghost use Rattle.segment_blocks.specs.HeaderAgain.{header_again};
+
+    ghost spelling = { spelling_of_header };
+
+    ghost meaning = { header_in };
+
+    ghost HasSpelling = { IsHeader };
+
+    #[tactic(auto, unfolding(crate::specs::Headers::header_in))]
+    fn read(alloc: Global, bytes: &[u8; 4096]) -> Result<SegmentHeader, NoMemory> {
+        let count = number_u16(bytes, 28).min(900);
+        read_with(alloc, count, bytes)
+    }
+
+    fn write(&self, out: &mut [u8; 4096]) {
+        let fields = fields_of(
+            self.obj.0,
+            self.pctfree,
+            self.movement,
+            self.low,
+            self.high,
+            self.extents.len() as u16,
+        );
+        write_page(self.dba, self.lsn, &fields, &self.extents, out);
+    }
+
+    ghost reads_again = { header_again };
+}
+
+fn obj_in(code: u8) -> Obj
+    ensures value { result ≡ obj_in code }
+    ensures least { 1 ≤ result }
+    ensures most { result ≤ 32 }
+{
+    Obj(code.min(32).max(1))
+}
+
+fn is_on(code: u8) -> bool
+    ensures { result ≡ is_on code }
+{
+    code != 0
+}
+
+fn flag(on: bool) -> u8
+    ensures { result ≡ flag on }
+{
+    if on { 1 } else { 0 }
+}
+
+fn read_with(alloc: Global, count: u16, bytes: &[u8; 4096]) -> Result<SegmentHeader, NoMemory>
+    requires { count ≤ 900 }
+    ensures { IfOk result (λ header. header ≡ header_with count bytes.now) }
+{
+    let (_, rest) = bytes.split_at(64);
+    let extents = read_all(alloc, count, rest)?;
+    Ok(SegmentHeader {
+        dba: Dba(number_u32(bytes, 4)),
+        lsn: Lsn(number_u64(bytes, 8)),
+        obj: obj_in(bytes[16]),
+        pctfree: bytes[17].min(50),
+        movement: is_on(bytes[18]),
+        low: number_u32(bytes, 20),
+        high: number_u32(bytes, 24),
+        extents,
+    })
+}
+
+/// The 48 bytes between the head and the extents.
+fn fields_of(obj: u8, pctfree: u8, movement: bool, low: u32, high: u32, count: u16) -> [u8; 48]
+    ensures { result ≡ fields_of obj pctfree movement low high count }
+{
+    let l = low.to_be_bytes();
+    let h = high.to_be_bytes();
+    let n = count.to_be_bytes();
+    [
+        obj,
+        pctfree,
+        flag(movement),
+        0,
+        l[0],
+        l[1],
+        l[2],
+        l[3],
+        h[0],
+        h[1],
+        h[2],
+        h[3],
+        n[0],
+        n[1],
+        0,
+        0,
+        0,
+        0,
+        0,
+        0,
+        0,
+        0,
+        0,
+        0,
+        0,
+        0,
+        0,
+        0,
+        0,
+        0,
+        0,
+        0,
+        0,
+        0,
+        0,
+        0,
+        0,
+        0,
+        0,
+        0,
+        0,
+        0,
+        0,
+        0,
+        0,
+        0,
+        0,
+        0,
+    ]
+}
+
+fn write_page(dba: Dba, lsn: Lsn, fields: &[u8; 48], extents: &[ExtentNumber], out: &mut [u8; 4096])
+    requires { length extents.now ≤ 900 }
+    ensures { (h : Header) → h.dba ≡ dba → h.lsn ≡ lsn → h.extents ≡ extents.now → fields.now ≡ fields_of h.obj h.pctfree h.movement h.low h.high (length h.extents) → out.new ≡ spelling_of_header h }
+{
+    let start = begin(out);
+    let fields_at = add(out, start, &head_bytes(KIND, 0, 0, dba, lsn));
+    let extents_at = add(out, fields_at, fields);
+    add_all(out, extents_at, extents);
+}

@@ -1,0 +1,18 @@
+//! The blocks that keep a store's tables and space: the catalogue, the space bitmap, a segment's header, the checkpoint.
+#![tactic(auto)]
+
+mod catalogue;
+mod checkpoint;
+mod entry;
+mod extent;
+mod header;
+mod range;
+mod space;
+#[cfg(test)]
+mod tests;
+
+pub use catalogue::Catalogue;
+pub use checkpoint::CheckpointPage;
+pub use entry::{CatalogueEntry, TableEntry};
+pub use header::SegmentHeader;
+pub use space::SpaceBitmap;

@@ -12,3 +12,15 @@ pub mod Views
 pub mod Union
 pub mod Basics
 pub mod Economy
+pub mod Links
+pub mod Places
+pub mod Shapes
+pub mod AllKinds
+pub mod Homes
+pub mod Fitting
+pub mod Whole
+pub mod Beyond
+pub mod SpreadLaw
+pub mod StaysLaw
+pub mod EconomyLaw
+pub mod ChainLaw

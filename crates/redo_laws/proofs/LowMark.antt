@@ -34,7 +34,7 @@ each-blocks P b zero h = tt
 each-blocks P b (suc n) h = (h b (omega arith) (omega arith), each-blocks P (suc b) n (λ c l u. h c (omega arith) (omega arith)))
 
 -- a block of one extent is in no other
-apart : (sh : Shape) (x y b : ℕ) → (y ≡ x → ⊥) → first_block sh y ≤ b → b < first_block sh y + sh.extent → in_extent sh x b ≡ false
+pub apart : (sh : Shape) (x y b : ℕ) → (y ≡ x → ⊥) → first_block sh y ≤ b → b < first_block sh y + sh.extent → in_extent sh x b ≡ false
 apart sh x y b ne l u =
     elim (cases_order y x) [
       | inl e ↦ absurd (ne e)
@@ -87,7 +87,7 @@ record LowOf (sh : Shape) (R : List Record) (m : Marks) (bs : List ℕ) : Type 0
 abbrev Low : Shape → List Record → ℕ → Type 0
 Low sh R o = LowOf sh R (marks R o) (data_blocks sh R o)
 
-free_of : (R : List Record) (n o x : ℕ) → is_taken R n x ≡ false → 1 ≤ o → o ≤ n → has_extent (extents_of R o) x ≡ false
+pub free_of : (R : List Record) (n o x : ℕ) → is_taken R n x ≡ false → 1 ≤ o → o ≤ n → has_extent (extents_of R o) x ≡ false
 free_of R zero o x h a b = absurd (omega arith)
 free_of R (suc n) o x h a b =
     let p = or_parts (has_extent (extents_of R (suc n)) x) (is_taken R n x) h in

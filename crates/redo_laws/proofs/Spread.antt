@@ -57,7 +57,7 @@ settles_off : (c : Counted) (active : ℕ → Bool) (w : Writer) (a : UndoAddr) 
 settles_off c active (By u) a off h = h (off u refl)
 settles_off c active (At m) a off h = h
 
-head_settled : (c : Counted) (active : ℕ → Bool) (ss : List Step) (i : Slot) (ms : List Made) → Every (λ (m : Made). Stands ss m.by m.undo) ms → IsClosed c active ss → HeadSettled active ms → first_counted c i ms ≡ i
+pub head_settled : (c : Counted) (active : ℕ → Bool) (ss : List Step) (i : Slot) (ms : List Made) → Every (λ (m : Made). Stands ss m.by m.undo) ms → IsClosed c active ss → HeadSettled active ms → first_counted c i ms ≡ i
 head_settled c active ss i [] s h o = refl
 head_settled c active ss i (m ∷ ms) s h o = cond-true _ _ _ (settles_off c active m.by m.undo o (settled_stands c active ss m.by m.undo s.0 h))
 
@@ -71,7 +71,7 @@ newest_stands (x ∷ ss) n last h =
       | false ↦ λ e. inr (newest_stands ss n last e)
     ]) h
 
-located_newest : (c : Counted) (ss : List Step) (n : ℕ) (last : Step) → newest_on ss n ≡ Some last → c last.by last.undo ≡ true → located c ss n ≡ place_of last.parts
+pub located_newest : (c : Counted) (ss : List Step) (n : ℕ) (last : Step) → newest_on ss n ≡ Some last → c last.by last.undo ≡ true → located c ss n ≡ place_of last.parts
 located_newest c [] n last h y = absurd (let x : ◌≡◌ {A = Option Step} None (Some last) = h in cc)
 located_newest c (x ∷ ss) n last h y =
     (elim (eqb x.row n) as (λ v. cond v (Some x) (newest_on ss n) ≡ Some last → cond (c x.by x.undo && v) (place_of x.parts) (located c ss n) ≡ place_of last.parts) [

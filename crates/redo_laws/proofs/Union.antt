@@ -17,7 +17,7 @@ use Rattle.redo_laws.proofs.Spread.{good}
 use Rattle.redo_laws.proofs.Views.{Settled, ready, IsOpen, view_is_newest}
 
 -- all steps on a row are of one table
-abbrev RowObj : List Step → Type 0
+abbrev pub RowObj : List Step → Type 0
 RowObj [] = Unit {0}
 RowObj (x ∷ ss) = Every (λ (s : Step). s.row ≡ x.row → s.obj ≡ x.obj) ss × RowObj ss
 
@@ -33,9 +33,9 @@ obj_filter : (f : Step → Bool) (ss : List Step) → RowObj ss → RowObj (filt
 obj_filter f [] h = tt
 obj_filter f (s ∷ ss) h = elim (f s) as (λ v. RowObj (cond v (s ∷ filter f ss) (filter f ss))) [ true ↦ (every-filter _ f ss h.0, obj_filter f ss h.1) | false ↦ obj_filter f ss h.1 ]
 
-record Rows (ss : List Step) : Type 0 where
-  objs : RowObj ss
-  told : Every Told ss
+pub record Rows (ss : List Step) : Type 0 where
+  pub objs : RowObj ss
+  pub told : Every Told ss
 
 effect_rows : (R : List Record) (ef : Effect) → EffectFits R ef → Rows (standing R) → Rows (standing_steps ef (standing R))
 effect_rows R Still f h = h
@@ -44,7 +44,7 @@ effect_rows R (Adds st) f h = record { objs = (obj_over st.row st.obj (standing 
 effect_rows R (TakesBack body) f h = record { objs = obj_filter _ (standing R) h.objs; told = every-filter _ _ (standing R) h.told }
 effect_rows R (Cleans d cs) f h = h
 
-rows : (sh : Shape) (R : List Record) → IsFit sh R → Rows (standing R)
+pub rows : (sh : Shape) (R : List Record) → IsFit sh R → Rows (standing R)
 rows sh [] h = record { objs = tt; told = tt }
 rows sh (r ∷ R) h = effect_rows R (effect_of r) h.1 (rows sh R h.0)
 
@@ -106,7 +106,7 @@ settled_counts R s t (By u) h = λ off. elim h [ inl on ↦ absurd (true≢false
     either false = refl
 settled_counts R s t (At m) h = h
 
-closed_counts : (R : List Record) (s t : ℕ) (ss : List Step) → Every (λ (x : Step). Settled R s x.by) ss → IsClosed (λ w a. counts R s t w) (is_active R) ss
+pub closed_counts : (R : List Record) (s t : ℕ) (ss : List Step) → Every (λ (x : Step). Settled R s x.by) ss → IsClosed (λ w a. counts R s t w) (is_active R) ss
 closed_counts R s t [] h = tt
 closed_counts R s t (x ∷ ss) h = (settled_counts R s t x.by h.0, (λ on. same ss on), closed_counts R s t ss h.1)
   where

@@ -101,11 +101,11 @@ abbrev pub Settled : List Record → ℕ → Writer → Type 0
 Settled R s (By u) = (is_active R u ≡ true) ⊎ (is_committed_by R s u ≡ true)
 Settled R s (At m) = leb m s ≡ true
 
-over_trans : (active : ℕ → Bool) (w v z : Writer) → MayOver active w v → MayOver active v z → MayOver active w z
+pub over_trans : (active : ℕ → Bool) (w v z : Writer) → MayOver active w v → MayOver active v z → MayOver active w z
 over_trans active w v (By u) a b = λ on. let o : MayOver active w (By u) = subst (MayOver active w) (b on) a in o on
 over_trans active w v (At m) a b = tt
 
-lock_over : (active : ℕ → Bool) (w : Writer) (n : ℕ) (ss : List Step) → RowLock active ss → ((last : Step) → newest_on ss n ≡ Some last → MayOver active w last.by) → Every (λ (s : Step). s.row ≡ n → MayOver active w s.by) ss
+pub lock_over : (active : ℕ → Bool) (w : Writer) (n : ℕ) (ss : List Step) → RowLock active ss → ((last : Step) → newest_on ss n ≡ Some last → MayOver active w last.by) → Every (λ (s : Step). s.row ≡ n → MayOver active w s.by) ss
 lock_over active w n [] lock h = tt
 lock_over active w n (x ∷ ss) lock h =
     (elim (eqb x.row n) as (λ v. eqb x.row n ≡ v → ((last : Step) → cond v (Some x) (newest_on ss n) ≡ Some last → MayOver active w last.by) → Every (λ (s : Step). s.row ≡ n → MayOver active w s.by) (x ∷ ss)) [

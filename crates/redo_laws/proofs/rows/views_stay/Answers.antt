@@ -1,0 +1,5 @@
+use Rattle.redo_laws.proofs.StaysLaw as laws
+use Rattle.redo_laws.proofs.rows.views_stay.Goals as goal
+
+pub returns : goal.returns
+returns c = laws.views_stay

@@ -1,0 +1,38 @@
+// The laws on which every scan rests: where rows are, that they stay, and that undo leads to them.
+ghost use Rattle.redo_laws.specs.Chain.{SlotsAreChains};
+ghost use Rattle.redo_laws.specs.Economy.{UndoIsEnough};
+ghost use Rattle.redo_laws.specs.Stays.{BlocksStay, ViewsStay};
+ghost use Rattle.redo_laws.specs.Views.{RowsAreSpread, ViewOfNone};
+
+/// At all commits, the view of an active transaction or of none is the union of what the formatted blocks of the table
+/// under its high mark give: each row in one slot, a migrated one at its body.
+pub fn rows_are_spread()
+    ensures { RowsAreSpread }
+{}
+
+/// Without a transaction a view is the table at its commit number.
+pub fn view_of_no_transaction_is_the_table()
+    ensures { ViewOfNone }
+{}
+
+/// What a block gives at a commit number for a transaction stays while the transaction adds nothing and the block isn't
+/// formatted again.
+pub fn blocks_stay()
+    ensures { BlocksStay }
+{}
+
+/// What a transaction sees at a commit number stays while it adds nothing.
+pub fn views_stay()
+    ensures { ViewsStay }
+{}
+
+/// Each image of a slot names the part of undo with the one below, a record states that part there, and what is followed
+/// down to the first image that counts is needed.
+pub fn slots_are_chains()
+    ensures { SlotsAreChains }
+{}
+
+/// Undo addresses of standing records are distinct, those of active transactions aren't reused, no undo block overflows.
+pub fn undo_is_enough()
+    ensures { UndoIsEnough }
+{}

@@ -33,7 +33,8 @@ use Rattle.redo_laws.proofs.Economy.{UndoIn, fresh}
 use Rattle.redo_laws.proofs.Links.{StandsOn, RoomOver, Linked, ImagesOf, LinksFit, LinksIn, settled_head}
 use Rattle.redo_laws.proofs.Places.{Segments, same_table}
 use Rattle.redo_laws.proofs.Shapes.{Replaces, AllPut, Keeps, Deletes, Source, OldRow, StepShape, holder_place, holder_bytes, holder_holds, none_new, none_place, holder_new, holder_at, named_part, row_of_empty}
-use Rattle.redo_laws.proofs.Homes.{RowOf, row_table, HomeIn}
+use Rattle.redo_laws.specs.Homes.{row_table}
+use Rattle.redo_laws.proofs.Homes.{RowOf, HomeIn}
 
 -- each step that stands is of the table of its row
 abbrev pub ObjectsIn : List Record → List Step → Type 0

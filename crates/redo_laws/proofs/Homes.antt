@@ -23,7 +23,7 @@ use Rattle.redo_laws.proofs.OnTop.{is_named, off_named, head_named, OnTop}
 use Rattle.redo_laws.proofs.Facts.{StatesOld, BegunBy, BackFits, HeadSettled}
 use Rattle.std.specs.List.{list_all}
 use Rattle.seg_base.specs.Room.{is_reusable}
-use Rattle.redo_record.specs.declared.record.Record.TheVariants.{Extend, FormatBlock, Lower, Insert}
+use Rattle.redo_record.specs.declared.record.Record.TheVariants.{Extend, FormatBlock, Lower}
 use Rattle.redo_record.specs.declared.space.ExtendRecord.{ExtendRecord}
 use Rattle.redo_record.specs.declared.space.FormatBlockRecord.{FormatBlockRecord}
 use Rattle.redo_record.specs.declared.space.LowerRecord.{LowerRecord}
@@ -31,21 +31,13 @@ use Rattle.redo_model.specs.Blocks.{slots_of, is_vacant_block}
 use Rattle.redo_model.specs.Segments.{Extent, extents_of, in_extent, extent_data, data_of, data_blocks, high_mark, is_formatted, is_vacant, kept_length}
 use Rattle.redo_model.specs.AllowedTables.{FormatAllowed, LowerAllowed}
 use Rattle.redo_model.proofs.Bridge.{image_is}
+use Rattle.redo_laws.specs.Homes.{row_table}
 use Rattle.redo_laws.proofs.Known.{Turn}
 use Rattle.redo_laws.proofs.Held.{Held, Stands, own_newest}
 use Rattle.redo_laws.proofs.Spread.{by_of}
 use Rattle.redo_laws.proofs.Links.{LinksIn, settled_head, clean_keeps, stands_begun, done_turn}
 use Rattle.redo_laws.proofs.Places.{is_in, in_left, in_right, in_either, in_take, IsNumber, Segments, same_table, a_table, extend_data, extend_keeps, format_first, lower_data}
 use Rattle.redo_laws.proofs.Shapes.{Present, Replaces, AllPut, StepShape, named_part}
-
--- the table of row n, by its Insert
-abbrev pub table_given : Record → ℕ → ℕ → ℕ
-table_given (Insert w) n o = cond (eqb w.row n) w.obj o
-table_given _ n o = o
-
-abbrev pub row_table : List Record → ℕ → ℕ
-row_table [] n = 0
-row_table (r ∷ R) n = table_given r n (row_table R n)
 
 -- row n was made, in table o
 abbrev pub RowOf : List Record → ℕ → ℕ → Type 0
@@ -302,7 +294,7 @@ lower_kept sh R (e ∷ es) b h =
       | inr z ↦ elim (kept_or_vacant sh R 1 es b z) [ inl w ↦ inl (in_right b (extent_data sh 0 e.number) _ w) | inr r ↦ inr r ]
     ]
 
-released_vacant : (sh : Shape) (R : List Record) (b k : ℕ) → LinksIn R → is_formatted sh R b ≡ true → Released sh R b → Vacant (is_active R) (image R b k) (makers R b k)
+pub released_vacant : (sh : Shape) (R : List Record) (b k : ℕ) → LinksIn R → is_formatted sh R b ≡ true → Released sh R b → Vacant (is_active R) (image R b k) (makers R b k)
 released_vacant sh R b k l f r =
     let either : (not (is_formatted sh R b) || is_vacant_block R b) ≡ true = all_in (λ c. not (is_formatted sh R c) || is_vacant_block R c) (extent_data sh r.index r.extent) b r.vacant r.here in
     let whole : is_vacant_block R b ≡ true = elim (or_cases (not (is_formatted sh R b)) (is_vacant_block R b) either) [ inl y ↦ absurd (true≢false (sym f ∙ not-true (is_formatted sh R b) y)) | inr z ↦ z ] in

@@ -24,3 +24,5 @@ pub mod SpreadLaw
 pub mod StaysLaw
 pub mod EconomyLaw
 pub mod ChainLaw
+pub mod TxnTable
+pub mod HomesLaw

@@ -59,7 +59,7 @@ home_of_row sh R b k s t n x w l e =
           absurd (true≢false (sym q.0 ∙ ap (λ (i : Slot). holds_row i.kind) same ∙ row_of_empty (image R b k).kind (d.vacant k).empty))
     ]
 
-present_block : (sh : Shape) (R : List Record) (o b : ℕ) → Segments sh R → Present sh R o b → IsRowBlock sh R o b
+pub present_block : (sh : Shape) (R : List Record) (o b : ℕ) → Segments sh R → Present sh R o b → IsRowBlock sh R o b
 present_block sh R o b s p = record { here = contains_in (under_high sh R o) b (s.under o b p.0 p.1 p.2); formatted = p.2 }
 
 -- a slot that gives a row is there

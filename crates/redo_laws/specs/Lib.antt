@@ -5,3 +5,5 @@ pub mod Views
 pub mod Stays
 pub mod Economy
 pub mod Chain
+pub mod Forgotten
+pub mod Homes

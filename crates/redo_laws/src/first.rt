@@ -1,5 +1,6 @@
 // The first laws: numbers, tables and marks, and what one more record does.
 ghost use Rattle.redo_laws.specs.Added.{ImagesAfterOne, MovesKeepTables, OthersAreLeft};
+ghost use Rattle.redo_laws.specs.Forgotten.{ForgottenHavePassed};
 ghost use Rattle.redo_laws.specs.Numbers.{NumbersAreGivenOnce};
 ghost use Rattle.redo_laws.specs.Tables.{LowMarkRule, PrefixesAreLawful, RecordsNameTables};
 
@@ -36,4 +37,9 @@ pub fn moves_keep_tables()
 /// What a FormatBlock and a Clean leave in each slot of their block.
 pub fn images_after_one()
     ensures { ImagesAfterOne }
+{}
+
+/// A forgotten transaction has committed or rolled back, and its commit number is at most the control number.
+pub fn forgotten_have_passed()
+    ensures { ForgottenHavePassed }
 {}

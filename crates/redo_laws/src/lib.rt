@@ -6,10 +6,10 @@ mod first;
 mod rows;
 
 pub use first::{
-    images_after_one, low_mark_rule, moves_keep_tables, numbers_are_given_once, others_are_left,
-    prefixes_are_lawful, records_name_tables,
+    forgotten_have_passed, images_after_one, low_mark_rule, moves_keep_tables,
+    numbers_are_given_once, others_are_left, prefixes_are_lawful, records_name_tables,
 };
 pub use rows::{
-    blocks_stay, rows_are_spread, slots_are_chains, undo_is_enough,
+    blocks_stay, rows_are_spread, slots_are_at_home, slots_are_chains, undo_is_enough,
     view_of_no_transaction_is_the_table, views_stay,
 };

@@ -1,6 +1,7 @@
 // The laws on which every scan rests: where rows are, that they stay, and that undo leads to them.
 ghost use Rattle.redo_laws.specs.Chain.{SlotsAreChains};
 ghost use Rattle.redo_laws.specs.Economy.{UndoIsEnough};
+ghost use Rattle.redo_laws.specs.Homes.{SlotsAreAtHome};
 ghost use Rattle.redo_laws.specs.Stays.{BlocksStay, ViewsStay};
 ghost use Rattle.redo_laws.specs.Views.{RowsAreSpread, ViewOfNone};
 
@@ -35,4 +36,10 @@ pub fn slots_are_chains()
 /// Undo addresses of standing records are distinct, those of active transactions aren't reused, no undo block overflows.
 pub fn undo_is_enough()
     ensures { UndoIsEnough }
+{}
+
+/// A slot that holds a row, or leads to one, stands in a formatted block of the row's table under its high mark; the
+/// blocks of a vacant extent hold none.
+pub fn slots_are_at_home()
+    ensures { SlotsAreAtHome }
 {}

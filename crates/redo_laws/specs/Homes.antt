@@ -1,0 +1,26 @@
+-- Where slots are at home: what holds a row or leads to one stands in a block of the row's table, and what is vacant holds
+-- nothing. So lowering loses no row.
+use Rattle.std.specs.Prelude.{◌≡◌, ℕ, true, false, cond, eqb, List, [], ◌∷◌, Contains}
+use Rattle.seg_base.specs.declared.shape.Shape.{Shape}
+use Rattle.seg_base.specs.Room.{is_empty}
+use Rattle.redo_record.specs.declared.record.Record.{Record}
+use Rattle.redo_record.specs.declared.record.Record.TheVariants.{Insert}
+use Rattle.redo_model.specs.Slots.{image}
+use Rattle.redo_model.specs.Segments.{IsRowBlock, IsVacant, IsFormatted, extent_data}
+use Rattle.redo_model.specs.Lawful.{AreAllowed}
+
+abbrev pub table_given : Record → ℕ → ℕ → ℕ
+table_given (Insert w) n o = cond (eqb w.row n) w.obj o
+table_given _ n o = o
+
+-- the table of row n, by its Insert
+abbrev pub row_table : List Record → ℕ → ℕ
+row_table [] n = 0
+row_table (r ∷ R) n = table_given r n (row_table R n)
+
+pub record HomesOf (sh : Shape) (R : List Record) (b k : ℕ) : Type 0 where
+  pub at_home : is_empty (image R b k).kind ≡ false → IsRowBlock sh R (row_table R (image R b k).row) b
+  pub vacant : (index x : ℕ) → IsVacant sh R index x → Contains (extent_data sh index x) b → IsFormatted sh R b → is_empty (image R b k).kind ≡ true
+
+abbrev pub SlotsAreAtHome : Type 0
+SlotsAreAtHome = (sh : Shape) (R : List Record) (b k : ℕ) → AreAllowed sh R → HomesOf sh R b k

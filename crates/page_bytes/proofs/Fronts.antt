@@ -61,3 +61,9 @@ pub all_added : {X : Type 0} (f : X → List ℕ) (xs : List X) (page : List ℕ
 all_added {X = X} f xs page at now next i w le =
     let all : take i xs ≡ xs = take_all i xs le in
     (w.place ∙ ap (λ (ys : List X). at + length (flat_map f ys)) all, λ front h. rw all at (w.bytes front h))
+
+-- the same, where the bytes of the next thing were made before
+pub add_made : {X : Type 0} (f : X → List ℕ) (xs : List X) (page : List ℕ) (at : ℕ) (now : List ℕ) (next i : ℕ) (x : X) (y now' : List ℕ) (next' : ℕ) → Added f xs page at now next i → i < length xs → x ≡ get_or xs i x → y ≡ f x
+    → next' ≡ next + length y → ((front : List ℕ) → IsFront now front next → IsFront now' (front ++ y) next') → Added f xs page at now' next' (i + 1)
+add_made f xs page at now next i x y now' next' w lt is made step put =
+    add_next f xs page at now next i x now' next' w lt is (step ∙ ap (λ (z : List ℕ). next + length z) made) (λ front h. rw (← made) (put front h))

@@ -1,6 +1,6 @@
--- The 40 bytes of a slot. The row of a slot stands elsewhere.
-use Rattle.std.specs.Prelude.{◌≡◌, ℕ, zero, suc, ◌<◌, ◌^◌, List, ◌∷◌, ◌++◌, length, max, slice_index, Option, Some, None}
-use Rattle.std.specs.Int.{w16, w32, w64, to_be_bytes}
+-- What the 40 bytes of a slot read as. The row of a slot stands elsewhere.
+use Rattle.std.specs.Prelude.{◌≡◌, ℕ, zero, suc, ◌<◌, ◌^◌, List, length, max, slice_index, Option, Some, None}
+use Rattle.std.specs.Int.{w16, w32, w64}
 use Rattle.seg_base.specs.declared.slot.Slot.{Slot}
 use Rattle.seg_base.specs.declared.slot.UndoAddr.{UndoAddr}
 use Rattle.seg_base.specs.declared.slot.Rowid.{Rowid}
@@ -9,36 +9,8 @@ use Rattle.seg_base.specs.declared.slot.Kind.TheVariants.{Empty, Row, Head, Body
 use Rattle.seg_base.specs.declared.slot.Writer.{Writer}
 use Rattle.seg_base.specs.declared.slot.Writer.TheVariants.{By, At}
 use Rattle.seg_base.specs.Fields.{number_in}
+use Rattle.seg_base.specs.Images.{writer_number}
 use Rattle.page_bytes.specs.declared.slot.SlotFields.{SlotFields}
-
-abbrev pub kind_code : Kind → ℕ
-kind_code Empty = 0
-kind_code Row = 1
-kind_code Head = 2
-kind_code Body = 3
-
-abbrev pub writer_tag : Writer → ℕ
-writer_tag (At c) = 0
-writer_tag (By t) = 1
-
-abbrev pub writer_number : Writer → ℕ
-writer_number (At c) = c
-writer_number (By t) = t
-
--- none is block 0, sequence 0, place 0
-abbrev pub undo_or_none : Option UndoAddr → UndoAddr
-undo_or_none None = record { block = 0; seq = 0; nth = 0 }
-undo_or_none (Some a) = a
-
--- none is block 0, slot 0
-abbrev pub link_or_none : Option Rowid → Rowid
-link_or_none None = record { dba = 0; slot = 0 }
-link_or_none (Some r) = r
-
-unfoldable pub slot_bytes : Slot → List ℕ
-slot_bytes s = kind_code s.kind ∷ writer_tag s.writer ∷ to_be_bytes w64 (writer_number s.writer)
-    ++ to_be_bytes w32 (undo_or_none s.undo).block ++ to_be_bytes w64 (undo_or_none s.undo).seq ++ (undo_or_none s.undo).nth ∷ to_be_bytes w64 s.row
-    ++ to_be_bytes w32 (link_or_none s.link).dba ++ (link_or_none s.link).slot ∷ to_be_bytes w16 (length s.bytes) ++ to_be_bytes w16 s.room
 
 -- the fields as they stand in 40 bytes
 abbrev pub fields_in : List ℕ → SlotFields
@@ -57,51 +29,51 @@ fields_in g = record {
 }
 
 -- What they read as: an unknown code as the first one, block 0 as none.
-abbrev pub kind_from : ℕ → Kind
-kind_from zero = Empty
-kind_from (suc zero) = Row
-kind_from (suc (suc zero)) = Head
-kind_from (suc (suc (suc zero))) = Body
-kind_from (suc (suc (suc (suc n)))) = Empty
+abbrev pub kind_as : ℕ → Kind
+kind_as zero = Empty
+kind_as (suc zero) = Row
+kind_as (suc (suc zero)) = Head
+kind_as (suc (suc (suc zero))) = Body
+kind_as (suc (suc (suc (suc n)))) = Empty
 
-abbrev pub writer_from : ℕ → ℕ → Writer
-writer_from zero n = At n
-writer_from (suc zero) n = By n
-writer_from (suc (suc k)) n = At n
+abbrev pub writer_as : ℕ → ℕ → Writer
+writer_as zero n = At n
+writer_as (suc zero) n = By n
+writer_as (suc (suc k)) n = At n
 
-abbrev pub undo_from : ℕ → ℕ → ℕ → Option UndoAddr
-undo_from zero seq nth = None
-undo_from (suc b) seq nth = Some (record { block = suc b; seq = seq; nth = nth })
+abbrev pub undo_as : ℕ → ℕ → ℕ → Option UndoAddr
+undo_as zero seq nth = None
+undo_as (suc b) seq nth = Some (record { block = suc b; seq = seq; nth = nth })
 
-abbrev pub link_from : ℕ → ℕ → Option Rowid
-link_from zero slot = None
-link_from (suc d) slot = Some (record { dba = suc d; slot = slot })
+abbrev pub link_as : ℕ → ℕ → Option Rowid
+link_as zero slot = None
+link_as (suc d) slot = Some (record { dba = suc d; slot = slot })
 
 -- an Empty slot and a Head have no row
-abbrev pub len_from : Kind → ℕ → ℕ
-len_from Empty n = 0
-len_from Row n = n
-len_from Head n = 0
-len_from Body n = n
+abbrev pub len_as : Kind → ℕ → ℕ
+len_as Empty n = 0
+len_as Row n = n
+len_as Head n = 0
+len_as Body n = n
 
 -- the room is at least the row's length, and just that where the writer's commit number is known
-abbrev pub room_from : Writer → ℕ → ℕ → ℕ
-room_from (At c) len room = len
-room_from (By t) len room = max len room
+abbrev pub room_as : Writer → ℕ → ℕ → ℕ
+room_as (At c) len room = len
+room_as (By t) len room = max len room
 
 abbrev pub row_len : SlotFields → ℕ
-row_len f = len_from (kind_from f.kind) f.len
+row_len f = len_as (kind_as f.kind) f.len
 
 -- the slot with these fields and this row
-abbrev pub slot_from : SlotFields → List ℕ → Slot
-slot_from f row = record {
-  kind = kind_from f.kind;
-  writer = writer_from f.tag f.writer;
-  undo = undo_from f.undo_block f.undo_seq f.undo_nth;
+abbrev pub slot_as : SlotFields → List ℕ → Slot
+slot_as f row = record {
+  kind = kind_as f.kind;
+  writer = writer_as f.tag f.writer;
+  undo = undo_as f.undo_block f.undo_seq f.undo_nth;
   row = f.row;
-  link = link_from f.link_block f.link_slot;
+  link = link_as f.link_block f.link_slot;
   bytes = row;
-  room = room_from (writer_from f.tag f.writer) (length row) f.room;
+  room = room_as (writer_as f.tag f.writer) (length row) f.room;
 }
 
 -- the slots that have a spelling
@@ -119,6 +91,6 @@ pub record IsSlot (s : Slot) : Type 0 where
   pub row : s.row < 2 ^ 64
   pub link : LinkFits s.link
   pub bytes : length s.bytes < 2 ^ 16
-  pub len : len_from s.kind (length s.bytes) ≡ length s.bytes
+  pub len : len_as s.kind (length s.bytes) ≡ length s.bytes
   pub room_fits : s.room < 2 ^ 16
-  pub room : room_from s.writer (length s.bytes) s.room ≡ s.room
+  pub room : room_as s.writer (length s.bytes) s.room ≡ s.room

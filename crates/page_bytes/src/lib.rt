@@ -17,4 +17,4 @@ pub use field::{head_bytes, number_u16, number_u32, number_u64};
 pub use front::{add, add_all, begin};
 pub use page::{PageForm, decode};
 pub use piece::{Piece, read_all};
-pub use slot::{SlotFields, slot_bytes};
+pub use slot::SlotFields;

@@ -1,6 +1,6 @@
-// The 40 bytes of a slot.
+// What the 40 bytes of a slot read as.
 ghost use Rattle.std.specs.Prelude.{◌≡◌, ◌<◌, ◌^◌, length, IfOk};
-ghost use Rattle.page_bytes.specs.Slots.{kind_code, writer_tag, writer_number, undo_or_none, link_or_none, slot_bytes, fields_in, kind_from, writer_from, undo_from, link_from, len_from, room_from, row_len, slot_from};
+ghost use Rattle.page_bytes.specs.Slots.{fields_in, kind_as, writer_as, undo_as, link_as, len_as, room_as, row_len, slot_as};
 
 use crate::field::{number_u16, number_u32, number_u64};
 use seg_base::{Dba, Kind, NoMemory, RowNo, Rowid, Scn, Slot, Text, TxnId, UndoAddr, Writer};
@@ -22,120 +22,8 @@ pub struct SlotFields {
     pub room: u16,
 }
 
-fn kind_code(kind: Kind) -> u8
-    ensures { result ≡ kind_code kind }
-{
-    match kind {
-        Kind::Empty => 0,
-        Kind::Row => 1,
-        Kind::Head => 2,
-        Kind::Body => 3,
-    }
-}
-
-fn writer_tag(writer: &Writer) -> u8
-    ensures { result ≡ writer_tag writer.now }
-{
-    match writer {
-        Writer::At(_) => 0,
-        Writer::By(_) => 1,
-    }
-}
-
-fn writer_number(writer: &Writer) -> u64
-    ensures { result ≡ writer_number writer.now }
-{
-    match writer {
-        Writer::At(number) => number.0,
-        Writer::By(txn) => txn.0,
-    }
-}
-
-fn undo_or_none(undo: &Option<UndoAddr>) -> UndoAddr
-    ensures { result ≡ undo_or_none undo.now }
-{
-    match undo {
-        Some(undo) => *undo,
-        None => UndoAddr {
-            block: 0,
-            seq: 0,
-            nth: 0,
-        },
-    }
-}
-
-fn link_or_none(link: &Option<Rowid>) -> Rowid
-    ensures { result ≡ link_or_none link.now }
-{
-    match link {
-        Some(link) => *link,
-        None => Rowid {
-            dba: Dba(0),
-            slot: 0,
-        },
-    }
-}
-
-#[tactic(auto, unfolding(crate::specs::Slots::slot_bytes))]
-pub fn slot_bytes(slot: &Slot) -> [u8; 40]
-    requires { length slot.now.bytes < 2 ^ 16 }
-    ensures { result ≡ slot_bytes slot.now }
-{
-    let w = writer_number(&slot.writer).to_be_bytes();
-    let undo = undo_or_none(&slot.undo);
-    let ub = undo.block.to_be_bytes();
-    let us = undo.seq.to_be_bytes();
-    let r = slot.row.0.to_be_bytes();
-    let link = link_or_none(&slot.link);
-    let lb = link.dba.0.to_be_bytes();
-    let n = (slot.bytes.len() as u16).to_be_bytes();
-    let m = slot.room.to_be_bytes();
-    [
-        kind_code(slot.kind),
-        writer_tag(&slot.writer),
-        w[0],
-        w[1],
-        w[2],
-        w[3],
-        w[4],
-        w[5],
-        w[6],
-        w[7],
-        ub[0],
-        ub[1],
-        ub[2],
-        ub[3],
-        us[0],
-        us[1],
-        us[2],
-        us[3],
-        us[4],
-        us[5],
-        us[6],
-        us[7],
-        undo.nth,
-        r[0],
-        r[1],
-        r[2],
-        r[3],
-        r[4],
-        r[5],
-        r[6],
-        r[7],
-        lb[0],
-        lb[1],
-        lb[2],
-        lb[3],
-        link.slot,
-        n[0],
-        n[1],
-        m[0],
-        m[1],
-    ]
-}
-
-fn kind_from(code: u8) -> Kind
-    ensures { result ≡ kind_from code }
+fn kind_as(code: u8) -> Kind
+    ensures { result ≡ kind_as code }
 {
     match code {
         1 => Kind::Row,
@@ -145,8 +33,8 @@ fn kind_from(code: u8) -> Kind
     }
 }
 
-fn writer_from(tag: u8, number: u64) -> Writer
-    ensures { result ≡ writer_from tag number }
+fn writer_as(tag: u8, number: u64) -> Writer
+    ensures { result ≡ writer_as tag number }
 {
     match tag {
         1 => Writer::By(TxnId(number)),
@@ -154,8 +42,8 @@ fn writer_from(tag: u8, number: u64) -> Writer
     }
 }
 
-fn undo_from(block: u32, seq: u64, nth: u8) -> Option<UndoAddr>
-    ensures { result ≡ undo_from block seq nth }
+fn undo_as(block: u32, seq: u64, nth: u8) -> Option<UndoAddr>
+    ensures { result ≡ undo_as block seq nth }
 {
     match block {
         0 => None,
@@ -163,8 +51,8 @@ fn undo_from(block: u32, seq: u64, nth: u8) -> Option<UndoAddr>
     }
 }
 
-fn link_from(block: u32, slot: u8) -> Option<Rowid>
-    ensures { result ≡ link_from block slot }
+fn link_as(block: u32, slot: u8) -> Option<Rowid>
+    ensures { result ≡ link_as block slot }
 {
     match block {
         0 => None,
@@ -175,8 +63,8 @@ fn link_from(block: u32, slot: u8) -> Option<Rowid>
     }
 }
 
-fn len_from(kind: Kind, len: u16) -> u16
-    ensures { result ≡ len_from kind len }
+fn len_as(kind: Kind, len: u16) -> u16
+    ensures { result ≡ len_as kind len }
 {
     match kind {
         Kind::Empty | Kind::Head => 0,
@@ -184,8 +72,8 @@ fn len_from(kind: Kind, len: u16) -> u16
     }
 }
 
-fn room_from(writer: &Writer, len: u16, room: u16) -> u16
-    ensures { result ≡ room_from writer.now len room }
+fn room_as(writer: &Writer, len: u16, room: u16) -> u16
+    ensures { result ≡ room_as writer.now len room }
 {
     match writer {
         Writer::At(_) => len,
@@ -218,23 +106,23 @@ impl SlotFields {
     pub fn row_len(&self) -> u16
         ensures { result ≡ row_len self.now }
     {
-        len_from(kind_from(self.kind), self.len)
+        len_as(kind_as(self.kind), self.len)
     }
 
     /// The slot with these fields and this row.
     pub fn slot(&self, alloc: Global, row: &[u8]) -> Result<Slot, NoMemory>
         requires { length row.now < 2 ^ 16 }
-        ensures { IfOk result (λ slot. slot ≡ slot_from self.now row.now) }
+        ensures { IfOk result (λ slot. slot ≡ slot_as self.now row.now) }
     {
-        let writer = writer_from(self.tag, self.writer);
-        let room = room_from(&writer, row.len() as u16, self.room);
+        let writer = writer_as(self.tag, self.writer);
+        let room = room_as(&writer, row.len() as u16, self.room);
         let bytes = Text::copy(alloc, row)?;
         Ok(Slot {
-            kind: kind_from(self.kind),
+            kind: kind_as(self.kind),
             writer,
-            undo: undo_from(self.undo_block, self.undo_seq, self.undo_nth),
+            undo: undo_as(self.undo_block, self.undo_seq, self.undo_nth),
             row: RowNo(self.row),
-            link: link_from(self.link_block, self.link_slot),
+            link: link_as(self.link_block, self.link_slot),
             bytes,
             room,
         })

@@ -1,0 +1,5 @@
+pub mod Cleaned
+pub mod Held
+pub mod Reading
+pub mod Writing
+pub mod InRange

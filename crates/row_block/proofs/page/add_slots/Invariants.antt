@@ -1,0 +1,6 @@
+use Rattle.seg_base.specs.Images.{slot_bytes}
+use Rattle.page_bytes.proofs.Fronts.{Added}
+use Rattle.row_block.proofs.page.add_slots.Given as goal
+
+abbrev pub invariant-loop-slot : goal.invariant-loop-slot
+invariant-loop-slot l = Added slot_bytes l.slots l.fn.page l.at l.page l.next l.slot-index

@@ -1,0 +1,7 @@
+use Rattle.std.proofs.Common.{◌≡◌, ◌≤◌, ◌*◌, take}
+use Rattle.std.specs.List.{sum_by}
+use Rattle.seg_base.specs.Room.{slot_size}
+use Rattle.row_block.proofs.sizes.slots_size.Given as goal
+
+abbrev pub invariant-loop-slot : goal.invariant-loop-slot
+invariant-loop-slot g l = (l.size ≡ sum_by (slot_size (g.E.Ended.has_ended l.ended)) (take l.slot-index l.slots)) × (l.size ≤ 65575 * l.slot-index)

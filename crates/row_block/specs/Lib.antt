@@ -1,0 +1,5 @@
+pub mod RowPage
+pub mod Answers
+pub mod Spelling
+pub mod Faults
+pub mod Again

@@ -1,0 +1,440 @@
+// A row block, and the calls that ask it and change it.
+ghost use Rattle.std.specs.Prelude.{◌≡◌, ◌≤◌, ◌<◌, ◌+◌, ◌*◌, ◌/◌, ◌↔◌, length, slice_index_or, true, if◌then◌else◌, nat_lt, Some, None, OnOk, OnErr, IfOk, IfSome, IsTrue, MatchResult, option_map};
+ghost use Rattle.seg_base.specs.Blocks.{new_block, put, put_slot, put_entry, new_slot, new_entry};
+ghost use Rattle.seg_base.specs.Room.{slot_size, used_of, free_of, class_of_block, entry_for, other_entry, entry_size, entry_need, slot_need, takes, fits, row_growth, has_room};
+ghost use Rattle.seg_base.specs.Cleaning.{clean_block};
+ghost use Rattle.row_block.specs.RowPage.{with_block, laid_out, IsImage, IsHeld, counted, growth_of, need_of, CanPut, CanEnter};
+ghost use Rattle.row_block.specs.Answers.{Fills, Puts, Enters, RefusesEntry, txns_of};
+ghost use Rattle.row_block.specs.declared.fault.BlockFault.TheVariants as faults;
+ghost use Rattle.row_block.specs.RowPage.{RowPage};
+ghost use Rattle.row_block.specs.Spelling.{spelling, IsRowPage, Decodes, IsReadAs};
+
+use crate::BlockFault;
+use crate::clean::clean_slots;
+use crate::entries::Entries;
+use crate::sizes::{AllEnded, row_size, slot_size, slot_to_use, slots_size};
+use page_bytes::PageForm;
+use seg_base::{
+    Class, Dba, Ended, ListEntry, Lsn, NoMemory, Scn, Sequence, Slot, Taker, TxnId, class_of,
+};
+use std::alloc::Global;
+use std::marker::Model;
+
+/// A block that holds rows.
+#[derive(Debug, Drop)]
+pub struct RowBlock {
+    dba: Dba,
+    lsn: Lsn,
+    slots: Vec<Slot>,
+    entries: Entries,
+}
+
+impl Model for RowBlock {
+    ghost use Rattle.row_block.specs.RowPage.{RowPage, IsHeld};
+
+    ghost Value = { RowPage };
+
+    ghost view = { λ p. record { dba = p.dba; lsn = p.lsn; block = record { slots = p.slots.items; entries = p.entries } } };
+
+    ghost invariant = { λ p. IsHeld (record { slots = p.slots.items; entries = p.entries }) };
+}
+
+impl RowBlock {
+    /// A block as it is formatted.
+    pub fn new(alloc: Global, dba: Dba) -> RowBlock
+        ensures { result ≡ record { dba = dba; lsn = 0; block = new_block } }
+    {
+        RowBlock {
+            dba,
+            lsn: Lsn(0),
+            slots: Vec::new(alloc),
+            entries: Entries::new(),
+        }
+    }
+
+    /// A block of these slots and list entries.
+    pub(crate) fn from_parts(dba: Dba, lsn: Lsn, slots: Vec<Slot>, entries: Entries) -> RowBlock
+        requires { IsHeld (record { slots = slots.items; entries = entries }) }
+        ensures { result ≡ record { dba = dba; lsn = lsn; block = record { slots = slots.items; entries = entries } } }
+    {
+        RowBlock {
+            dba,
+            lsn,
+            slots,
+            entries,
+        }
+    }
+
+    pub(crate) fn all_slots(&self) -> &[Slot]
+        ensures slots { result.now ≡ self.now.block.slots }
+        ensures held { IsHeld self.now.block }
+    {
+        self.slots.as_slice()
+    }
+
+    pub(crate) fn all_entries(&self) -> &[ListEntry]
+        ensures { result.now ≡ self.now.block.entries }
+    {
+        self.entries.as_slice()
+    }
+
+    pub fn dba(&self) -> Dba
+        ensures { result ≡ self.now.dba }
+    {
+        self.dba
+    }
+
+    pub fn lsn(&self) -> Lsn
+        ensures { result ≡ self.now.lsn }
+    {
+        self.lsn
+    }
+
+    /// What the slots count, and 24 for each list entry past the second.
+    fn used<E: Ended>(&self, ended: &E) -> u32
+        ensures value { result ≡ used_of (E.has_ended ended.now) self.now.block }
+        ensures most { result ≤ 6557644 }
+    {
+        let more = 24 * (self.entries.len() as u32).saturating_sub(2);
+        slots_size(&self.slots, ended) + more
+    }
+
+    /// The bytes that are free.
+    pub fn free<E: Ended>(&self, ended: &E) -> u16
+        ensures value { result ≡ free_of (E.has_ended ended.now) self.now.block }
+        ensures most { result ≤ 4032 }
+    {
+        4032u32.saturating_sub(self.used(ended)) as u16
+    }
+
+    /// The free class, which PCTFREE bounds.
+    pub fn class<E: Ended>(&self, ended: &E, pctfree: u8) -> Class
+        requires { pctfree ≤ 50 }
+        ensures { result ≡ class_of_block (E.has_ended ended.now) pctfree self.now.block }
+    {
+        class_of(self.free(ended), pctfree)
+    }
+
+    /// The number of slots.
+    pub fn slots(&self) -> u8
+        ensures count { result ≡ length self.now.block.slots }
+        ensures most { result ≤ 100 }
+    {
+        self.slots.len() as u8
+    }
+
+    /// A slot, None exactly from `slots()` on.
+    pub fn slot(&self, n: u8) -> Option<&Slot>
+        ensures { option_map (λ s. s.now) result ≡ (if nat_lt n (length self.now.block.slots) then Some (slice_index_or self.now.block.slots n new_slot) else None) }
+    {
+        self.slots.get(n as usize)
+    }
+
+    /// The number of list entries, from 2 on.
+    pub fn entries(&self) -> u8
+        ensures count { result ≡ length self.now.block.entries }
+        ensures range { (2 ≤ result) × (result ≤ 8) }
+    {
+        self.entries.len() as u8
+    }
+
+    /// A list entry, None exactly from `entries()` on. Transaction 0 stands for none, number 0 for one not known.
+    pub fn entry(&self, i: u8) -> Option<(TxnId, Scn)>
+        ensures { result ≡ (if nat_lt i (length self.now.block.entries) then Some (record { 0 = (slice_index_or self.now.block.entries i new_entry).txn; 1 = (slice_index_or self.now.block.entries i new_entry).number }) else None) }
+    {
+        match self.entries.as_slice().get(i as usize) {
+            Some(entry) => Some((entry.txn, entry.number)),
+            None => None,
+        }
+    }
+
+    /// The least entry that is empty or names an ended transaction, else a new one.
+    fn other_entry<E: Ended>(&self, ended: &E) -> Option<u8>
+        ensures { result ≡ other_entry (E.has_ended ended.now) self.now.block }
+    {
+        if let Some(at) = self.entries.spare(ended) {
+            return Some(at as u8);
+        }
+        let count = self.entries.len();
+        if count < 8 && 24 <= self.free(ended) {
+            return Some(count as u8);
+        }
+        None
+    }
+
+    /// Why a transaction can't have a list entry.
+    fn no_entry<E: Ended>(&self, ended: &E) -> Result<BlockFault, BlockFault>
+        requires { other_entry (E.has_ended ended.now) self.now.block ≡ None }
+        ensures { MatchResult result (RefusesEntry (E.has_ended ended.now) self.now.block) (λ e. (e ≡ faults.NoMemory) × (length self.now.block.entries ≡ 8)) }
+    {
+        if self.entries() < 8 {
+            let free = self.free(ended);
+            return Ok(BlockFault::NoRoom { need: 24, free });
+        }
+        let txns = txns_of(*self.slots.allocator(), self.entries.as_slice())?;
+        Ok(BlockFault::NoSlot { txns })
+    }
+
+    /// The list entry that a transaction uses, `entries()` for a new one; None exactly where none can be had.
+    pub fn entry_for<E: Ended>(&self, ended: &E, txn: TxnId) -> Option<u8>
+        ensures value { result ≡ entry_for (E.has_ended ended.now) self.now.block txn }
+        ensures range { IfSome result (λ i. (i ≤ length self.now.block.entries) × (i < 8)) }
+    {
+        if let Some(at) = self.entries.own(txn) {
+            return Some(at as u8);
+        }
+        self.other_entry(ended)
+    }
+
+    fn entry_size(&self, i: u8) -> u16
+        ensures { result ≡ entry_size self.now.block i }
+    {
+        if i < self.entries() { 0 } else { 24 }
+    }
+
+    /// What a taker needs for its list entry, None where none can be had.
+    fn entry_need<E: Ended>(&self, ended: &E, taker: &Taker) -> Option<u16>
+        ensures value { result ≡ entry_need (E.has_ended ended.now) self.now.block taker.now }
+        ensures most { IfSome result (λ n. n ≤ 24) }
+    {
+        let entry = match taker {
+            Taker::New => self.other_entry(ended),
+            Taker::Open(txn) => self.entry_for(ended, *txn),
+            Taker::Shrink => return Some(0),
+        };
+        match entry {
+            Some(i) => Some(self.entry_size(i)),
+            None => None,
+        }
+    }
+
+    /// Whether a row of this length goes into the block, into a slot that is reusable or new, and leaves PCTFREE free.
+    pub fn takes<E: Ended>(&self, ended: &E, pctfree: u8, len: u16, taker: &Taker) -> bool
+        requires { pctfree ≤ 50 }
+        ensures { result ≡ takes (E.has_ended ended.now) pctfree self.now.block len taker.now }
+    {
+        match self.entry_need(ended, taker) {
+            None => false,
+            Some(entry) => {
+                let at = slot_to_use(&self.slots, ended);
+                if at >= 100 {
+                    return false;
+                }
+                let slot = if at < self.slots.len() { 0 } else { 40 };
+                let need = u32::from(len) + slot + u32::from(entry);
+                let free = u32::from(self.free(ended));
+                need <= free && u32::from(pctfree) * 4032 <= (free - need) * 100
+            }
+        }
+    }
+
+    /// Whether a row of this length fits into a slot that is there, PCTFREE aside.
+    pub fn fits<E: Ended>(&self, ended: &E, slot: u8, len: u16, taker: &Taker) -> bool
+        requires { slot < length self.now.block.slots }
+        ensures { result ≡ fits (E.has_ended ended.now) self.now.block slot len taker.now }
+    {
+        match self.entry_need(ended, taker) {
+            None => false,
+            Some(entry) => {
+                let growth = len.saturating_sub(row_size(&self.slots[slot as usize], ended));
+                u32::from(growth) + u32::from(entry) <= u32::from(self.free(ended))
+            }
+        }
+    }
+
+    /// What slot n counts now, 0 where it isn't there yet.
+    fn counted<E: Ended>(&self, ended: &E, n: u8) -> u32
+        ensures { result ≡ counted (E.has_ended ended.now) self.now.block n }
+    {
+        match self.slots.get(n as usize) {
+            Some(slot) => slot_size(slot, ended),
+            None => 0,
+        }
+    }
+
+    /// What an image counts in slot n beyond what the slot counts now.
+    fn growth<E: Ended>(&self, ended: &E, n: u8, image: &Slot) -> u16
+        requires { IsImage image.now }
+        ensures { result ≡ growth_of (E.has_ended ended.now) self.now.block n image.now }
+    {
+        slot_size(image, ended).saturating_sub(self.counted(ended, n)) as u16
+    }
+
+    fn need<E: Ended>(&self, ended: &E, n: u8, image: &Slot) -> u16
+        requires { IsImage image.now }
+        ensures { result ≡ need_of (E.has_ended ended.now) self.now.block n image.now }
+    {
+        if self.used(ended) <= 4032 {
+            self.growth(ended, n, image)
+        } else {
+            self.growth(&AllEnded, n, image)
+        }
+    }
+
+    /// Whether an image can be put into slot n, or behind the last slot.
+    pub fn can_put(&self, n: u8, image: &Slot) -> bool
+        ensures { IsTrue result ↔ CanPut self.now.block n image.now }
+    {
+        let len = image.bytes.len();
+        if n > self.slots() || n >= 100 || len > image.room as usize {
+            return false;
+        }
+        let others = self.used(&AllEnded) - self.counted(&AllEnded, n);
+        others + 40 + len as u32 <= 4032
+    }
+
+    /// Puts an image into slot n, or behind the last slot.
+    pub fn put_slot(&mut self, n: u8, image: Slot) -> Result<(), BlockFault>
+        requires { CanPut self.old.block n image }
+        ensures { Puts self.old (with_block self.old (put_slot n image self.old.block)) self.new result }
+    {
+        put(&mut self.slots, n as usize, image)?;
+        Ok(())
+    }
+
+    /// Puts an image into slot n where the bytes that it needs are free.
+    pub fn set_slot<E: Ended>(&mut self, ended: &E, n: u8, image: Slot) -> Result<(), BlockFault>
+        requires at { n ≤ length self.old.block.slots }
+        requires most { n < 100 }
+        requires image { IsImage image }
+        ensures { Fills (need_of (E.has_ended ended.now) self.old.block n image) (free_of (E.has_ended ended.now) self.old.block) self.old (with_block self.old (put_slot n image self.old.block)) self.new result }
+    {
+        let _ = &self.dba;
+        let need = self.need(ended, n, &image);
+        let free = self.free(ended);
+        if free < need {
+            return Err(BlockFault::NoRoom { need, free });
+        }
+        self.put_slot(n, image)
+    }
+
+    /// Whether a transaction can be put into list entry i, or behind the last entry.
+    pub fn can_enter(&self, i: u8) -> bool
+        ensures { IsTrue result ↔ CanEnter self.now.block i }
+    {
+        let _ = &self.dba;
+        let count = self.entries();
+        if i > count || i >= 8 {
+            return false;
+        }
+        if i < count {
+            return true;
+        }
+        self.used(&AllEnded) + 24 <= 4032
+    }
+
+    /// Puts a transaction into list entry i, or behind the last entry.
+    pub fn put_entry(&mut self, i: u8, entry: ListEntry)
+        requires { CanEnter self.old.block i }
+        ensures { self.new ≡ with_block self.old (put_entry i entry self.old.block) }
+    {
+        self.entries.put(i as usize, entry);
+    }
+
+    /// The transaction's list entry, made where it has none.
+    pub fn enter_txn<E: Ended>(&mut self, ended: &E, txn: TxnId) -> Result<u8, BlockFault>
+        ensures { Enters (E.has_ended ended.now) txn self.old self.new result }
+    {
+        let _ = &self.dba;
+        match self.entry_for(ended, txn) {
+            Some(i) => {
+                self.put_entry(
+                    i,
+                    ListEntry {
+                        txn,
+                        number: Scn(0),
+                    },
+                );
+                Ok(i)
+            }
+            None => Err(self.no_entry(ended)?),
+        }
+    }
+
+    /// Takes ended transactions out of slots and list entries; 0 stands for a commit number that is not known.
+    pub fn clean(&mut self, done: &[(TxnId, Scn)])
+        ensures { self.new ≡ with_block self.old (clean_block done.now self.old.block) }
+    {
+        clean_slots(&mut self.slots, done);
+        self.entries.clean(done);
+    }
+
+    /// As a block is formatted.
+    pub fn clear(&mut self)
+        ensures { self.new ≡ with_block self.old new_block }
+    {
+        self.slots.clear();
+        self.entries = Entries::new();
+    }
+
+    pub fn set_lsn(&mut self, lsn: Lsn)
+        ensures { self.new ≡ record { dba = self.old.dba; lsn = lsn; block = self.old.block } }
+    {
+        self.lsn = lsn;
+    }
+
+    /// The block that a page spells, or the first byte that is not of the spelling of what its fields read as.
+    pub fn decode(alloc: Global, bytes: &[u8; 4096]) -> Result<RowBlock, BlockFault>
+        ensures exact { Decodes bytes.now result }
+        // What is read has a spelling, and what is spelled is read.
+        ensures spelled { IfOk result IsRowPage }
+        ensures only { (p : RowPage) → IsRowPage p → bytes.now ≡ spelling p → IsReadAs p result }
+    {
+        let page: RowBlock = page_bytes::decode(alloc, bytes)?;
+        Ok(page)
+    }
+
+    /// Writes the one page that spells the block.
+    pub fn encode(&self, out: &mut [u8; 4096])
+        ensures { out.new ≡ spelling self.now }
+    {
+        self.write(out);
+    }
+
+    pub fn duplicate(&self, alloc: Global) -> Result<RowBlock, BlockFault>
+        ensures { IfOk result (λ block. block ≡ self.now) }
+    {
+        let slots = slots_copy(alloc, &self.slots)?;
+        Ok(RowBlock {
+            dba: self.dba,
+            lsn: self.lsn,
+            slots,
+            entries: self.entries.duplicate(),
+        })
+    }
+}
+
+fn txns_of(alloc: Global, entries: &[ListEntry]) -> Result<Sequence<TxnId>, NoMemory>
+    ensures { IfOk result (λ txns. txns ≡ txns_of entries.now) }
+{
+    let mut txns = Sequence::new(alloc);
+    for entry in entries {
+        txns.push(entry.txn)?;
+    }
+    Ok(txns)
+}
+
+fn slots_copy(alloc: Global, slots: &[Slot]) -> Result<Vec<Slot>, BlockFault>
+    ensures { IfOk result (λ copy. copy.items ≡ slots.now) }
+{
+    let mut copy = Vec::new(alloc);
+    for slot in slots {
+        copy.push(slot.duplicate(alloc)?)?;
+    }
+    Ok(copy)
+}
+
+/// Puts an image in its place, or behind the last slot.
+#[tactic(auto, using(seg_base::proofs::Puts::put_set, seg_base::proofs::Puts::put_push))]
+fn put(slots: &mut Vec<Slot>, at: usize, image: Slot) -> Result<(), NoMemory>
+    requires { at ≤ length slots.old.items }
+    ensures ok { OnOk result (slots.new.items ≡ put new_slot slots.old.items at image) }
+    ensures err { OnErr result (slots.new.items ≡ slots.old.items) }
+{
+    if at < slots.len() {
+        slots[at] = image;
+    } else {
+        slots.push(image)?;
+    }
+    Ok(())
+}

@@ -1,0 +1,86 @@
+// What slots count, and which is used next.
+ghost use Rattle.std.specs.Prelude.{◌≡◌, ◌<◌, ◌≤◌, length, get_or, cond, ltb, Some, None, All};
+ghost use Rattle.std.specs.List.{sum_by, position_or_len};
+ghost use Rattle.seg_base.specs.Room.{row_size, slot_size, writer_has_ended, is_reusable};
+
+use seg_base::{Ended, Kind, Slot, TxnId, Writer};
+
+/// Every transaction has ended: a slot counts what it takes on the page.
+pub struct AllEnded;
+
+impl Ended for AllEnded {
+    ghost use Rattle.std.specs.Prelude.{true};
+
+    ghost has_ended = { λ _ _. true };
+
+    fn ended(&self, _txn: TxnId) -> bool {
+        true
+    }
+}
+
+pub fn writer_has_ended<E: Ended>(writer: &Writer, ended: &E) -> bool
+    ensures { result ≡ writer_has_ended (E.has_ended ended.now) writer.now }
+{
+    match writer {
+        Writer::By(txn) => ended.ended(*txn),
+        Writer::At(_) => true,
+    }
+}
+
+/// What a slot counts for its row.
+pub fn row_size<E: Ended>(slot: &Slot, ended: &E) -> u16
+    requires { length slot.now.bytes ≤ slot.now.room }
+    ensures { result ≡ row_size (E.has_ended ended.now) slot.now }
+{
+    let room = slot.room;
+    if writer_has_ended(&slot.writer, ended) {
+        slot.bytes.len() as u16
+    } else {
+        room
+    }
+}
+
+pub fn slot_size<E: Ended>(slot: &Slot, ended: &E) -> u32
+    requires { length slot.now.bytes ≤ slot.now.room }
+    ensures value { result ≡ slot_size (E.has_ended ended.now) slot.now }
+    ensures most { result ≤ 65575 }
+{
+    40 + u32::from(row_size(slot, ended))
+}
+
+/// What the slots count together.
+pub fn slots_size<E: Ended>(slots: &[Slot], ended: &E) -> u32
+    requires count { length slots.now ≤ 100 }
+    requires rooms { All (λ s. length s.bytes ≤ s.room) slots.now }
+    ensures value { result ≡ sum_by (slot_size (E.has_ended ended.now)) slots.now }
+    ensures most { result ≤ 6557500 }
+{
+    let mut size = 0;
+    for slot in slots {
+        size += slot_size(slot, ended);
+    }
+    size
+}
+
+fn is_reusable<E: Ended>(slot: &Slot, ended: &E) -> bool
+    ensures { result ≡ is_reusable (E.has_ended ended.now) slot.now }
+{
+    slot.kind == Kind::Empty && writer_has_ended(&slot.writer, ended)
+}
+
+fn reusable_slot<E: Ended>(slots: &[Slot], ended: &E) -> Option<usize>
+    ensures { result ≡ cond (ltb (position_or_len (is_reusable (E.has_ended ended.now)) slots.now) (length slots.now)) (Some (position_or_len (is_reusable (E.has_ended ended.now)) slots.now)) None }
+{
+    slots.iter().position(|slot| is_reusable(slot, ended))
+}
+
+/// The least reusable slot, else the number of slots.
+pub fn slot_to_use<E: Ended>(slots: &[Slot], ended: &E) -> usize
+    ensures value { result ≡ position_or_len (is_reusable (E.has_ended ended.now)) slots.now }
+    ensures most { result ≤ length slots.now }
+{
+    match reusable_slot(slots, ended) {
+        Some(at) => at,
+        None => slots.len(),
+    }
+}

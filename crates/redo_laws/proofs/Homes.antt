@@ -137,7 +137,7 @@ back_rows of st i (p ∷ ps) b k im ms h =
 head_active : (active : ℕ → Bool) (u : ℕ) (ms xs : List Made) (m : Made) → HeadSettled active ms → ms ≡ m ∷ xs → m.by ≡ By u → active u ≡ true → ⊥
 head_active active u ms xs m h e by on = true≢false (sym on ∙ (let s : HeadSettled active (m ∷ xs) = subst (HeadSettled active) e h in s u by))
 
-newest_by : (ss : List Step) (u : ℕ) (st : Step) → newest_of ss u ≡ Some st → st.by ≡ By u
+pub newest_by : (ss : List Step) (u : ℕ) (st : Step) → newest_of ss u ≡ Some st → st.by ≡ By u
 newest_by [] u st h = absurd (let x : ◌≡◌ {A = Option Step} None (Some st) = h in cc)
 newest_by (x ∷ ss) u st h =
     (elim (is_by x.by u) as (λ v. is_by x.by u ≡ v → cond v (Some x) (newest_of ss u) ≡ Some st → st.by ≡ By u) [

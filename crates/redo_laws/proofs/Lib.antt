@@ -26,3 +26,6 @@ pub mod EconomyLaw
 pub mod ChainLaw
 pub mod TxnTable
 pub mod HomesLaw
+pub mod RoomKinds
+pub mod Sums
+pub mod RoomLaw

@@ -217,7 +217,7 @@ over_turn R r (By u) t b h = elim (cases_Bool (is_active (r ∷ R) u)) [
 ]
 over_turn R r (At c) t b h = refl
 
-old_begun : (active : ℕ → Bool) (n : ℕ) (ss : List Step) (i : Slot) (ms : List Made) → Linked active n ss i ms → BegunBy n i.writer
+pub old_begun : (active : ℕ → Bool) (n : ℕ) (ss : List Step) (i : Slot) (ms : List Made) → Linked active n ss i ms → BegunBy n i.writer
 old_begun active n ss i [] h = subst (BegunBy n) (sym h.writer) tt
 old_begun active n ss i (m ∷ ms) h = h.0.begun
 

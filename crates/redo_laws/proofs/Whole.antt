@@ -28,9 +28,9 @@ use Rattle.redo_laws.proofs.Homes.{RowOf, Home, RowsIn, home_adds, home_back, ho
 use Rattle.redo_laws.proofs.Fitting.{ObjectsIn, Whole, shape_fits, shape_links, step_table}
 
 -- what a record needs of the list before it
-record Fits (R : List Record) (ef : Effect) : Type 0 where
-  effect : EffectFits R ef
-  links : LinksFit R ef
+pub record Fits (R : List Record) (ef : Effect) : Type 0 where
+  pub effect : EffectFits R ef
+  pub links : LinksFit R ef
 
 step_fits : (sh : Shape) (R : List Record) (st : Step) → AreAllowed sh R → Whole sh R → Segments sh R → Basics R st → StepShape sh R st → Fits R (Adds st)
 step_fits sh R st h w s b f = record { effect = shape_fits sh R st h w s b f; links = shape_links sh R st w f }
@@ -134,3 +134,10 @@ whole sh (r ∷ R) h =
       objects = objects_step sh R r a w s x;
       homes = λ b. home_turn (λ o. Present sh (r ∷ R) o b) (RowOf (r ∷ R)) R r (standing (r ∷ R)) (image (r ∷ R) b) (makers (r ∷ R) b) t after.begun (λ k. after.stand b k) (home_effect sh R r b a w s x f.effect);
     }
+
+pub record_fits : (sh : Shape) (R : List Record) (r : Record) → AreAllowed sh (r ∷ R) → Fits R (effect_of r)
+record_fits sh R r h =
+    let w = whole sh R h.0 in
+    let s = segments sh R h.0 in
+    let a = h.1.kind in
+    fits_all sh R r h.0 a w s (basics sh R r a) (shape_of sh R r s a)

@@ -7,3 +7,4 @@ pub mod Economy
 pub mod Chain
 pub mod Forgotten
 pub mod Homes
+pub mod Room

@@ -2,6 +2,7 @@
 ghost use Rattle.redo_laws.specs.Chain.{SlotsAreChains};
 ghost use Rattle.redo_laws.specs.Economy.{UndoIsEnough};
 ghost use Rattle.redo_laws.specs.Homes.{SlotsAreAtHome};
+ghost use Rattle.redo_laws.specs.Room.{BlocksHaveRoom};
 ghost use Rattle.redo_laws.specs.Stays.{BlocksStay, ViewsStay};
 ghost use Rattle.redo_laws.specs.Views.{RowsAreSpread, ViewOfNone};
 
@@ -42,4 +43,10 @@ pub fn undo_is_enough()
 /// blocks of a vacant extent hold none.
 pub fn slots_are_at_home()
     ensures { SlotsAreAtHome }
+{}
+
+/// What a block counts, and its page, fit in its 4,032 bytes, whatever transactions end; it has 2 to 8 list entries, at
+/// most 100 slots, and rows of at most 1,800 bytes.
+pub fn blocks_have_room()
+    ensures { BlocksHaveRoom }
 {}

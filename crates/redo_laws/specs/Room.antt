@@ -1,0 +1,28 @@
+-- In a lawful list what a block counts fits in the block, now and when any of its transactions end, so taking back always
+-- fits. The sizes are this engine's own.
+use Rattle.std.specs.Prelude.{◌≡◌, ℕ, ◌+◌, ◌-◌, ◌*◌, ◌≤◌, Bool, true, List, length}
+use Rattle.std.specs.List.{sum_by}
+use Rattle.seg_base.specs.declared.shape.Shape.{Shape}
+use Rattle.seg_base.specs.declared.slot.Slot.{Slot}
+use Rattle.seg_base.specs.Room.{used_of as used_by}
+use Rattle.redo_record.specs.declared.record.Record.{Record}
+use Rattle.redo_model.specs.Transactions.{ended_in}
+use Rattle.redo_model.specs.Slots.{image, slot_count, entry_count}
+use Rattle.redo_model.specs.Blocks.{block_of, slots_of, entries_of, used_of}
+use Rattle.redo_model.specs.Lawful.{AreAllowed}
+
+-- what the page of a block holds behind its header: slots, rows, list entries past the second
+abbrev pub page_size : List Record → ℕ → ℕ
+page_size R b = sum_by (λ (s : Slot). 40 + length s.bytes) (slots_of R b) + 24 * (length (entries_of R b) - 2)
+
+pub record RoomOf (R : List Record) (b : ℕ) : Type 0 where
+  pub counted : used_of R b ≤ 4032
+  pub when_more_end : (ended : ℕ → Bool) → ((t : ℕ) → ended_in R t ≡ true → ended t ≡ true) → used_by ended (block_of R b) ≤ 4032
+  pub page : page_size R b ≤ 4032
+  pub entries_from : 2 ≤ entry_count R b
+  pub entries_to : entry_count R b ≤ 8
+  pub slots : slot_count R b ≤ 100
+  pub rows : (k : ℕ) → length (image R b k).bytes ≤ 1800
+
+abbrev pub BlocksHaveRoom : Type 0
+BlocksHaveRoom = (sh : Shape) (R : List Record) (b : ℕ) → AreAllowed sh R → RoomOf R b

@@ -1,0 +1,5 @@
+pub mod Head
+pub mod Frame
+pub mod Spelling
+pub mod Ready
+pub mod Found

@@ -1,0 +1,9 @@
+//! The two real files of a store, through the runtime's files. Nothing here says what they hold: that a real disk keeps
+//! the disk model is a premise.
+#![tactic(auto)]
+
+mod host;
+#[cfg(test)]
+mod tests;
+
+pub use host::Host;

@@ -59,7 +59,7 @@ self_place : (b k : ℕ) → is_place b k b k ≡ true
 self_place b k = and_from _ _ (eq-eqb b b refl) (eq-eqb k k refl)
 
 -- two slots whose images differ in a test are two
-apart_by : (R : List Record) (f : Slot → Bool) (b k c l : ℕ) → f (image R b k) ≡ true → f (image R c l) ≡ false → is_place b k c l ≡ false
+pub apart_by : (R : List Record) (f : Slot → Bool) (b k c l : ℕ) → f (image R b k) ≡ true → f (image R c l) ≡ false → is_place b k c l ≡ false
 apart_by R f b k c l p q =
     elim (cases_Bool (is_place b k c l)) [
       | inr n ↦ n
@@ -81,7 +81,7 @@ txn_target sh R w i entry b c h = target_replaces sh R (of_row w false []) b (tx
 move_target : (sh : Shape) (R : List Record) (m : MoveRecord) (i b : ℕ) (c : Content) → Present sh R m.obj b → Replaces sh R (of_move m []) (move_part R m i b (next_slot R b) c)
 move_target sh R m i b c h = target_replaces sh R (of_move m []) b (move_part R m i b (next_slot R b) c) refl refl h
 
-target_apart : (R : List Record) (b k t : ℕ) → is_empty (image R b k).kind ≡ false → is_place b k t (next_slot R t) ≡ false
+pub target_apart : (R : List Record) (b k t : ℕ) → is_empty (image R b k).kind ≡ false → is_place b k t (next_slot R t) ≡ false
 target_apart R b k t e = apart_by R not_empty b k t (next_slot R t) (ap not e) (ap not (and_parts (is_empty (image R t (next_slot R t)).kind) (writer_has_ended (ended_in R) (image R t (next_slot R t)).writer) (target_reusable R t)).0)
 
 row_kind : (k : Kind) → k ≡ Row → is_empty k ≡ false

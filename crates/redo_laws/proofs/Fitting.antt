@@ -50,7 +50,7 @@ pub record Whole (sh : Shape) (R : List Record) : Type 0 where
 
 -- all steps count
 
-abbrev all : Counted
+abbrev pub all : Counted
 all w a = true
 
 all_same : (w : Writer) (ss : List Step) → SameCounts all w ss
@@ -61,11 +61,11 @@ settled_all : (active : ℕ → Bool) (w : Writer) → IfSettled active w (true 
 settled_all active (By u) = λ off. refl
 settled_all active (At m) = refl
 
-closed_all : (active : ℕ → Bool) (ss : List Step) → IsClosed all active ss
+pub closed_all : (active : ℕ → Bool) (ss : List Step) → IsClosed all active ss
 closed_all active [] = tt
 closed_all active (s ∷ ss) = (settled_all active s.by, (λ e. all_same s.by ss), closed_all active ss)
 
-all_first : (i : Slot) (ms : List Made) → first_counted all i ms ≡ i
+pub all_first : (i : Slot) (ms : List Made) → first_counted all i ms ≡ i
 all_first i [] = refl
 all_first i (m ∷ ms) = refl
 

@@ -29,3 +29,5 @@ pub mod HomesLaw
 pub mod RoomKinds
 pub mod Sums
 pub mod RoomLaw
+pub mod Pairs
+pub mod PairsLaw

@@ -49,7 +49,7 @@ over_counts c active ss w (By u) a s h same o =
     elim (cases_Bool (active u)) [ inl on ↦ same_stands c ss w (By u) a s same (sym (o on)) | inr off ↦ settled_stands c active ss (By u) a s h off ]
 over_counts c active ss w (At m) a s h same o = settled_stands c active ss (At m) a s h
 
-head_over : (c : Counted) (active : ℕ → Bool) (ss : List Step) (w : Writer) (i : Slot) (ms : List Made) → Every (λ (m : Made). Stands ss m.by m.undo) ms → IsClosed c active ss → SameCounts c w ss → HeadOver active w ms → first_counted c i ms ≡ i
+pub head_over : (c : Counted) (active : ℕ → Bool) (ss : List Step) (w : Writer) (i : Slot) (ms : List Made) → Every (λ (m : Made). Stands ss m.by m.undo) ms → IsClosed c active ss → SameCounts c w ss → HeadOver active w ms → first_counted c i ms ≡ i
 head_over c active ss w i [] s h same o = refl
 head_over c active ss w i (m ∷ ms) s h same o = cond-true _ _ _ (over_counts c active ss w m.by m.undo s.0 h same o)
 
@@ -181,7 +181,7 @@ adds_spread R st f h s c closed b k n bytes =
             f.covers last b k bytes e (sym (located_newest c (standing R) st.row last e counts) ∙ at_row)
 
 -- what counts, but for the step that is taken back
-abbrev but : Counted → UndoAddr → Counted
+abbrev pub but : Counted → UndoAddr → Counted
 but c a w x = c w x && not (is_addr x a)
 
 settled_map : (active : ℕ → Bool) (w : Writer) (P Q : Type 0) → (P → Q) → IfSettled active w P → IfSettled active w Q
@@ -210,7 +210,7 @@ same_but c a w (s ∷ ss) f h =
       | false ↦ λ e k. ((λ i. but_true c a s.by s.undo e (k.0 i)), same_but c a w ss f.1 k.1)
     ]) refl h
 
-closed_but : (c : Counted) (active : ℕ → Bool) (a : UndoAddr) (v : ℕ) (ss : List Step) → active v ≡ true → Tops a v ss → IsClosed c active (without_step a ss) → IsClosed (but c a) active ss
+pub closed_but : (c : Counted) (active : ℕ → Bool) (a : UndoAddr) (v : ℕ) (ss : List Step) → active v ≡ true → Tops a v ss → IsClosed c active (without_step a ss) → IsClosed (but c a) active ss
 closed_but c active a v [] on t h = tt
 closed_but c active a v (s ∷ ss) on t h =
     (elim (is_addr s.undo a) as (λ w. is_addr s.undo a ≡ w → IsClosed c active (cond (not w) (s ∷ without_step a ss) (without_step a ss)) → IsClosed (but c a) active (s ∷ ss)) [
@@ -241,7 +241,7 @@ located_but c a (s ∷ ss) n =
       ]
     ]) refl
 
-counted_but : (c : Counted) (a : UndoAddr) (i : Slot) (ms : List Made) → first_counted c i (without a ms) ≡ first_counted (but c a) i (without a ms)
+pub counted_but : (c : Counted) (a : UndoAddr) (i : Slot) (ms : List Made) → first_counted c i (without a ms) ≡ first_counted (but c a) i (without a ms)
 counted_but c a i [] = refl
 counted_but c a i (m ∷ ms) =
     (elim (is_addr m.undo a) as (λ w. is_addr m.undo a ≡ w → first_counted c i (cond (not w) (m ∷ without a ms) (without a ms)) ≡ first_counted (but c a) i (cond (not w) (m ∷ without a ms) (without a ms))) [
@@ -297,7 +297,7 @@ settled_turn R r (By u) P t b h = λ off. elim (cases_Bool (is_active (r ∷ R) 
 ]
 settled_turn R r (At m) P t b h = h
 
-closed_turn : (R : List Record) (r : Record) (c : Counted) (ss : List Step) → Turn R r → Every (λ (s : Step). BegunBy (txn_count R) s.by) ss → IsClosed c (is_active (r ∷ R)) ss → IsClosed c (is_active R) ss
+pub closed_turn : (R : List Record) (r : Record) (c : Counted) (ss : List Step) → Turn R r → Every (λ (s : Step). BegunBy (txn_count R) s.by) ss → IsClosed c (is_active (r ∷ R)) ss → IsClosed c (is_active R) ss
 closed_turn R r c [] t b h = tt
 closed_turn R r c (s ∷ ss) t b h = (settled_turn R r s.by _ t b.0 h.0, h.1, closed_turn R r c ss t b.1 h.2)
 

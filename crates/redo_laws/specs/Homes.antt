@@ -1,11 +1,14 @@
 -- Where slots are at home: what holds a row or leads to one stands in a block of the row's table, and what is vacant holds
 -- nothing. So lowering loses no row.
-use Rattle.std.specs.Prelude.{◌≡◌, ℕ, true, false, cond, eqb, List, [], ◌∷◌, Contains}
+use Rattle.std.specs.Prelude.{◌≡◌, ℕ, true, false, cond, eqb, List, [], ◌∷◌, Some, Contains}
 use Rattle.seg_base.specs.declared.shape.Shape.{Shape}
 use Rattle.seg_base.specs.Room.{is_empty}
 use Rattle.redo_record.specs.declared.record.Record.{Record}
 use Rattle.redo_record.specs.declared.record.Record.TheVariants.{Insert}
+use Rattle.seg_base.specs.declared.slot.Kind.{Kind}
+use Rattle.seg_base.specs.declared.slot.Kind.TheVariants.{Head, Body}
 use Rattle.redo_model.specs.Slots.{image}
+use Rattle.redo_model.specs.AllowedRows.{at_place}
 use Rattle.redo_model.specs.Segments.{IsRowBlock, IsVacant, IsFormatted, extent_data}
 use Rattle.redo_model.specs.Lawful.{AreAllowed}
 
@@ -24,3 +27,20 @@ pub record HomesOf (sh : Shape) (R : List Record) (b k : ℕ) : Type 0 where
 
 abbrev pub SlotsAreAtHome : Type 0
 SlotsAreAtHome = (sh : Shape) (R : List Record) (b k : ℕ) → AreAllowed sh R → HomesOf sh R b k
+
+-- slot k of block b names a slot that holds the other part of its row, and is named by it
+pub record Names (R : List Record) (other : Kind) (b k : ℕ) : Type 0 where
+  pub block : ℕ
+  pub slot : ℕ
+  pub link : (image R b k).link ≡ Some (at_place block slot)
+  pub kind : (image R block slot).kind ≡ other
+  pub row : (image R block slot).row ≡ (image R b k).row
+  pub back : (image R block slot).link ≡ Some (at_place b k)
+
+-- a head names its body, and a body its head
+pub record PairsOf (R : List Record) (b k : ℕ) : Type 0 where
+  pub head : (image R b k).kind ≡ Head → Names R Body b k
+  pub body : (image R b k).kind ≡ Body → Names R Head b k
+
+abbrev pub HeadsNameBodies : Type 0
+HeadsNameBodies = (sh : Shape) (R : List Record) (b k : ℕ) → AreAllowed sh R → PairsOf R b k

@@ -10,6 +10,6 @@ pub use first::{
     numbers_are_given_once, others_are_left, prefixes_are_lawful, records_name_tables,
 };
 pub use rows::{
-    blocks_have_room, blocks_stay, rows_are_spread, slots_are_at_home, slots_are_chains,
-    undo_is_enough, view_of_no_transaction_is_the_table, views_stay,
+    blocks_have_room, blocks_stay, heads_name_bodies, rows_are_spread, slots_are_at_home,
+    slots_are_chains, undo_is_enough, view_of_no_transaction_is_the_table, views_stay,
 };

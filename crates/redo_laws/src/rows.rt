@@ -1,7 +1,7 @@
 // The laws on which every scan rests: where rows are, that they stay, and that undo leads to them.
 ghost use Rattle.redo_laws.specs.Chain.{SlotsAreChains};
 ghost use Rattle.redo_laws.specs.Economy.{UndoIsEnough};
-ghost use Rattle.redo_laws.specs.Homes.{SlotsAreAtHome};
+ghost use Rattle.redo_laws.specs.Homes.{HeadsNameBodies, SlotsAreAtHome};
 ghost use Rattle.redo_laws.specs.Room.{BlocksHaveRoom};
 ghost use Rattle.redo_laws.specs.Stays.{BlocksStay, ViewsStay};
 ghost use Rattle.redo_laws.specs.Views.{RowsAreSpread, ViewOfNone};
@@ -49,4 +49,9 @@ pub fn slots_are_at_home()
 /// most 100 slots, and rows of at most 1,800 bytes.
 pub fn blocks_have_room()
     ensures { BlocksHaveRoom }
+{}
+
+/// The body of a head and the head of a body are there, hold the same row, and name each other.
+pub fn heads_name_bodies()
+    ensures { HeadsNameBodies }
 {}

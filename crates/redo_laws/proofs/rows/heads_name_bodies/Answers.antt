@@ -1,0 +1,5 @@
+use Rattle.redo_laws.proofs.PairsLaw as laws
+use Rattle.redo_laws.proofs.rows.heads_name_bodies.Goals as goal
+
+pub returns : goal.returns
+returns c = laws.heads_name_bodies

@@ -18,7 +18,7 @@ use Rattle.redo_model.specs.Segments.{IsTable}
 use Rattle.redo_model.specs.AllowedRows.{MigrateAllowed, migrates_plain, migrates_again, DeleteAllowed, deletes_plain, deletes_migrated}
 use Rattle.redo_model.specs.AllowedMoves.{MoveAllowed, moves_plain, moves_to_body, moves_migrated}
 use Rattle.redo_model.specs.Lawful.{IsKindAllowed, AreAllowed}
-use Rattle.redo_laws.specs.Tables.{PrefixesAreLawful, RecordsNameTables, table_of}
+use Rattle.redo_laws.specs.Tables.{PrefixesAreLawful}
 use Rattle.redo_laws.specs.Added.{any_in, is_change, OthersAreLeft, MovesKeepTables, ImagesAfterOne}
 
 allowed_before : (sh : Shape) (R : List Record) (n : ℕ) → AreAllowed sh R → AreAllowed sh (prefix R n)
@@ -53,7 +53,23 @@ move_table sh R m (moves_plain a) = a.move.table
 move_table sh R m (moves_to_body a) = a.move.table
 move_table sh R m (moves_migrated a) = a.move.table
 
-named : (sh : Shape) (R : List Record) (r : Record) (o : ℕ) → IsKindAllowed sh R r → table_of r ≡ Some o → IsTable R o
+-- the table that a record names, a Back aside
+abbrev pub table_named_by : Record → Option ℕ
+table_named_by (Movement m) = Some m.obj
+table_named_by (Extend e) = Some e.obj
+table_named_by (FormatBlock f) = Some f.obj
+table_named_by (Class k) = Some k.obj
+table_named_by (Advance a) = Some a.obj
+table_named_by (Lower l) = Some l.obj
+table_named_by (Insert w) = Some w.obj
+table_named_by (Update w) = Some w.obj
+table_named_by (Migrate w) = Some w.obj
+table_named_by (Return w) = Some w.obj
+table_named_by (Delete w) = Some w.obj
+table_named_by (Move m) = Some m.obj
+table_named_by _ = None
+
+pub named : (sh : Shape) (R : List Record) (r : Record) (o : ℕ) → IsKindAllowed sh R r → table_named_by r ≡ Some o → IsTable R o
 named sh R (Movement m) o a e = at_table R m.obj o a.table e
 named sh R (Extend x) o a e = at_table R x.obj o a.table e
 named sh R (FormatBlock f) o a e = at_table R f.obj o a.table e
@@ -67,9 +83,6 @@ named sh R (Return w) o a e = at_table R w.obj o a.change.change.table e
 named sh R (Delete w) o a e = at_table R w.obj o (delete_table sh R w a) e
 named sh R (Move m) o a e = at_table R m.obj o (move_table sh R m a) e
 named sh R _ o a e = none (IsTable R o) o e
-
-pub records_name_tables : RecordsNameTables
-records_name_tables sh R r o a e = named sh R r o a.kind e
 
 -- what a record leaves that doesn't name the block
 

@@ -31,3 +31,5 @@ pub mod Sums
 pub mod RoomLaw
 pub mod Pairs
 pub mod PairsLaw
+pub mod After
+pub mod PastLaw

@@ -1,5 +1,5 @@
 -- What one more record does to blocks, tables and images.
-use Rattle.std.specs.Prelude.{◌≡◌, ℕ, Bool, false, ◌||◌, eqb, List, [], ◌∷◌, map}
+use Rattle.std.specs.Prelude.{◌≡◌, ℕ, Bool, true, false, ◌||◌, eqb, List, [], ◌∷◌, map, Some}
 use Rattle.seg_base.specs.Blocks.{new_slot}
 use Rattle.seg_base.specs.Cleaning.{clean_slot}
 use Rattle.redo_record.specs.declared.record.Record.{Record}
@@ -7,10 +7,14 @@ use Rattle.redo_record.specs.declared.record.Record.TheVariants.{FormatBlock, Mo
 use Rattle.redo_record.specs.declared.row.MoveRecord.{MoveRecord}
 use Rattle.redo_record.specs.declared.space.FormatBlockRecord.{FormatBlockRecord}
 use Rattle.redo_record.specs.declared.transaction.CleanRecord.{CleanRecord}
-use Rattle.redo_model.specs.Effects.{Effect, Still, Formats, Adds, TakesBack, Cleans, effect_of, Placed, written, restored}
+use Rattle.redo_model.specs.Effects.{Step, Effect, Still, Formats, Adds, TakesBack, Cleans, effect_of, Placed, written, restored}
+use Rattle.redo_model.specs.Steps.{newest_of, standing}
 use Rattle.redo_model.specs.Tables.{table_at}
+use Rattle.redo_model.specs.Lawful.{AreAllowed}
+use Rattle.redo_record.specs.declared.part.RowPart.{RowPart}
+use Rattle.seg_base.specs.declared.shape.Shape.{Shape}
 use Rattle.redo_model.specs.Blocks.{block_of}
-use Rattle.redo_model.specs.Slots.{image, slot_count, entry, entry_count}
+use Rattle.redo_model.specs.Slots.{is_place, placed_in, image, slot_count, entry, entry_count}
 use Rattle.redo_model.specs.Versions.{Made, makers, images}
 
 abbrev pub any_in : List Placed → ℕ → Bool
@@ -40,6 +44,29 @@ OthersAreLeft = (R : List Record) (r : Record) (b : ℕ) → is_change (effect_o
 -- a Move changes no table
 abbrev pub MovesKeepTables : Type 0
 MovesKeepTables = (R : List Record) (m : MoveRecord) (o s n : ℕ) → table_at (Move m ∷ R) o s n ≡ table_at R o s n
+
+-- the parts name the slot
+abbrev pub names_slot : List RowPart → ℕ → ℕ → Bool
+names_slot [] b k = false
+names_slot (p ∷ ps) b k = is_place p.dba p.slot b k || names_slot ps b k
+
+-- the images of a slot after a row record or a Move: the new one over those before, where a part names it
+pub record ImagesAdded (R : List Record) (r : Record) (st : Step) (b k : ℕ) : Type 0 where
+  pub named : names_slot st.parts b k ≡ true → images (r ∷ R) b k ≡ placed_in (written st.parts) b k (image R b k) ∷ images R b k
+  pub left : names_slot st.parts b k ≡ false → images (r ∷ R) b k ≡ images R b k
+
+-- the images of a slot after a Back: those before without the newest, where the record that is taken back names it
+pub record ImagesBack (R : List Record) (r : Record) (st : Step) (b k : ℕ) : Type 0 where
+  pub named : names_slot st.parts b k ≡ true → images R b k ≡ image R b k ∷ images (r ∷ R) b k
+  pub left : names_slot st.parts b k ≡ false → images (r ∷ R) b k ≡ images R b k
+
+abbrev pub ImagesAfter : Effect → List Record → Record → ℕ → ℕ → Type 0
+ImagesAfter (Adds st) R r b k = ImagesAdded R r st b k
+ImagesAfter (TakesBack t) R r b k = (st : Step) → newest_of (standing R) t.txn ≡ Some st → ImagesBack R r st b k
+ImagesAfter _ R r b k = Unit {0}
+
+abbrev pub ImagesAfterSteps : Type 0
+ImagesAfterSteps = (sh : Shape) (R : List Record) (r : Record) (b k : ℕ) → AreAllowed sh (r ∷ R) → ImagesAfter (effect_of r) R r b k
 
 -- a slot after a FormatBlock of its block, and after a Clean of it
 pub record ImagesOfOne (R : List Record) : Type 0 where

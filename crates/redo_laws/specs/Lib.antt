@@ -8,3 +8,4 @@ pub mod Chain
 pub mod Forgotten
 pub mod Homes
 pub mod Room
+pub mod Past

@@ -1,12 +1,12 @@
 -- Laws on tables and marks: the low-mark rule, the view without a transaction, that records name tables that are there,
 -- and that the first records of a lawful list are lawful.
-use Rattle.std.specs.Prelude.{◌≡◌, ℕ, ◌≤◌, true, List, take, Option, Some, None}
+use Rattle.std.specs.Prelude.{◌≡◌, ℕ, ◌≤◌, true, List, ◌∷◌, take, Option, Some, None}
 use Rattle.seg_base.specs.declared.shape.Shape.{Shape}
 use Rattle.redo_record.specs.declared.record.Record.{Record}
-use Rattle.redo_record.specs.declared.record.Record.TheVariants.{Movement, Extend, FormatBlock, Class, Advance, Lower, Insert, Update, Migrate, Return, Delete, Move}
+use Rattle.redo_record.specs.declared.record.Record.TheVariants.{Movement, Extend, FormatBlock, Class, Advance, Lower, Insert, Update, Migrate, Return, Delete, Back, Move}
 use Rattle.redo_model.specs.Lists.{prefix}
 use Rattle.redo_model.specs.Segments.{IsTable, data_blocks, low_mark, first_unformatted}
-use Rattle.redo_model.specs.Lawful.{AreAllowed, IsAllowed, IsLawful, is_whole}
+use Rattle.redo_model.specs.Lawful.{AreAllowed, IsLawful, is_whole}
 
 -- each block of a table at a position below its low mark is formatted
 abbrev pub LowMarkRule : Type 0
@@ -31,8 +31,9 @@ table_of (Update w) = Some w.obj
 table_of (Migrate w) = Some w.obj
 table_of (Return w) = Some w.obj
 table_of (Delete w) = Some w.obj
+table_of (Back k) = Some k.obj
 table_of (Move m) = Some m.obj
 table_of _ = None
 
 abbrev pub RecordsNameTables : Type 0
-RecordsNameTables = (sh : Shape) (R : List Record) (r : Record) (o : ℕ) → IsAllowed sh R r → table_of r ≡ Some o → IsTable R o
+RecordsNameTables = (sh : Shape) (R : List Record) (r : Record) (o : ℕ) → AreAllowed sh (r ∷ R) → table_of r ≡ Some o → IsTable R o

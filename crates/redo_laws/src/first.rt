@@ -1,5 +1,5 @@
 // The first laws: numbers, tables and marks, and what one more record does.
-ghost use Rattle.redo_laws.specs.Added.{ImagesAfterOne, MovesKeepTables, OthersAreLeft};
+ghost use Rattle.redo_laws.specs.Added.{ImagesAfterOne, ImagesAfterSteps, MovesKeepTables, OthersAreLeft};
 ghost use Rattle.redo_laws.specs.Forgotten.{ForgottenHavePassed};
 ghost use Rattle.redo_laws.specs.Numbers.{NumbersAreGivenOnce};
 ghost use Rattle.redo_laws.specs.Tables.{LowMarkRule, PrefixesAreLawful, RecordsNameTables};
@@ -42,4 +42,9 @@ pub fn images_after_one()
 /// A forgotten transaction has committed or rolled back, and its commit number is at most the control number.
 pub fn forgotten_have_passed()
     ensures { ForgottenHavePassed }
+{}
+
+/// A row record or a Move puts its images over those of the slots that its parts name, and a Back uncovers them again.
+pub fn images_after_steps()
+    ensures { ImagesAfterSteps }
 {}

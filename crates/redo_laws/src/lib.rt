@@ -6,10 +6,11 @@ mod first;
 mod rows;
 
 pub use first::{
-    forgotten_have_passed, images_after_one, low_mark_rule, moves_keep_tables,
+    forgotten_have_passed, images_after_one, images_after_steps, low_mark_rule, moves_keep_tables,
     numbers_are_given_once, others_are_left, prefixes_are_lawful, records_name_tables,
 };
 pub use rows::{
-    blocks_have_room, blocks_stay, heads_name_bodies, rows_are_spread, slots_are_at_home,
-    slots_are_chains, undo_is_enough, view_of_no_transaction_is_the_table, views_stay,
+    blocks_have_room, blocks_stay, heads_name_bodies, past_is_lost, rows_are_spread,
+    slots_are_at_home, slots_are_chains, undo_is_enough, view_of_no_transaction_is_the_table,
+    views_stay,
 };

@@ -2,6 +2,7 @@
 ghost use Rattle.redo_laws.specs.Chain.{SlotsAreChains};
 ghost use Rattle.redo_laws.specs.Economy.{UndoIsEnough};
 ghost use Rattle.redo_laws.specs.Homes.{HeadsNameBodies, SlotsAreAtHome};
+ghost use Rattle.redo_laws.specs.Past.{PastIsLost};
 ghost use Rattle.redo_laws.specs.Room.{BlocksHaveRoom};
 ghost use Rattle.redo_laws.specs.Stays.{BlocksStay, ViewsStay};
 ghost use Rattle.redo_laws.specs.Views.{RowsAreSpread, ViewOfNone};
@@ -54,4 +55,10 @@ pub fn blocks_have_room()
 /// The body of a head and the head of a body are there, hold the same row, and name each other.
 pub fn heads_name_bodies()
     ensures { HeadsNameBodies }
+{}
+
+/// At an earlier commit number rows need not be spread: in this lawful list a row that a transaction sees at such a
+/// number stands in no block, since the transaction itself took its slot anew.
+pub fn past_is_lost()
+    ensures { PastIsLost }
 {}

@@ -1,0 +1,6 @@
+pub mod Entries
+pub mod Tables
+pub mod EntryBytes
+pub mod EntryAgain
+pub mod Pages
+pub mod Again

@@ -37,17 +37,17 @@ of_move m ps = record { by = At m.number; obj = m.obj; row = m.row; undo = m.und
 
 -- parts
 
+not_at : (P : Type 0) (t m : ℕ) → By t ≡ At m → P
+not_at P t m e = absurd cc
+
 txn_puts : (R : List Record) (w : RowBody) (d : Bool) (ps : List RowPart) (i entry b k : ℕ) (c : Content) → (is_empty c.kind ≡ false → c.row ≡ w.row) → (is_empty c.kind ≡ true → c.bytes ≡ []) → Puts R (of_row w d ps) i (txn_part R w i entry b k c)
-txn_puts R w d ps i entry b k c row none = record { undo = refl; writer = refl; row = row; room = λ u e. refl; none = none }
+txn_puts R w d ps i entry b k c row none = record { undo = refl; writer = refl; row = row; room = λ u e. refl; room_at = λ m e. not_at _ w.txn m e; none = none }
 
 not_by : (P : Type 0) (m u : ℕ) → At m ≡ By u → P
 not_by P m u e = absurd cc
 
-not_at : (P : Type 0) (t m : ℕ) → By t ≡ At m → P
-not_at P t m e = absurd cc
-
 move_puts : (R : List Record) (m : MoveRecord) (ps : List RowPart) (i b k : ℕ) (c : Content) → (is_empty c.kind ≡ false → c.row ≡ m.row) → (is_empty c.kind ≡ true → c.bytes ≡ []) → Puts R (of_move m ps) i (move_part R m i b k c)
-move_puts R m ps i b k c row none = record { undo = refl; writer = refl; row = row; room = λ u e. not_by _ m.number u e; none = none }
+move_puts R m ps i b k c row none = record { undo = refl; writer = refl; row = row; room = λ u e. not_by _ m.number u e; room_at = λ n e. refl; none = none }
 
 never : (P : Type 0) → true ≡ false → P
 never P e = absurd (true≢false e)

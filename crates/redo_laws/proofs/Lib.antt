@@ -33,3 +33,4 @@ pub mod Pairs
 pub mod PairsLaw
 pub mod After
 pub mod PastLaw
+pub mod FitLaw

@@ -1,5 +1,5 @@
 -- The room that each kind of row record and Move takes in its blocks.
-use Rattle.std.proofs.Common.{◌≡◌, ◌⊎◌, ℕ, ◌<◌, ◌≤◌, true, false, ◌&&◌, leb, List, [], length, take, Some, find, refl, sym, ◌∙◌, ap, subst, arith, inl, inr, le_refl}
+use Rattle.std.proofs.Common.{◌≡◌, ◌⊎◌, ℕ, ◌<◌, ◌≤◌, true, false, ◌&&◌, leb, List, [], length, take, Some, None, find, refl, sym, ◌∙◌, ap, subst, arith, inl, inr, le_refl}
 use Rattle.std.proofs.lemmas.Bool.{cond-true, true≢false, cases_Bool, and_parts, leb-true, leb-false}
 use Rattle.seg_base.specs.declared.shape.Shape.{Shape}
 use Rattle.seg_base.specs.declared.slot.Kind.{Kind}
@@ -71,7 +71,7 @@ IsShort R p = (length p.new.bytes ≤ 1800) ⊎ ((b : ℕ) × (k : ℕ) × (p.ne
 
 abbrev pub Enter : List Record → Writer → List RowPart → Type 0
 Enter R (By t) ps = Every (EntersAt R t) ps
-Enter R (At m) ps = Unit {0}
+Enter R (At m) ps = Every (λ (p : RowPart). p.entry ≡ None) ps
 
 pub record StepRoom (R : List Record) (st : Step) : Type 0 where
   pub rooms : Every (Quiet R) st.parts ⊎ OneGrows R st
@@ -197,7 +197,7 @@ move_plain_room sh R m a =
         grows = inl (record { slot = refl; pctfree = pctfree_of R m.obj; taker = Shrink; whose = refl; takes_it = first_takes sh R m.obj (position sh R m.obj a.block) (length bytes) a.target a.first });
         others = (inl (quiet_empty R a.block a.slot p0 (ap is_empty a.plain.kind) refl refl refl), (inr refl, tt));
       });
-      entries = tt;
+      entries = (refl, (refl, tt));
       short = (zero_short R p0 refl, (inr (a.block, a.slot, refl), tt));
     })
 
@@ -212,7 +212,7 @@ move_to_body_room sh R m a =
         quiet_empty R a.head_block a.head_slot p0 (ap is_empty a.migrated.head_kind) refl refl refl,
         (record { there = there R a.body_block a.body_slot (ap is_empty a.migrated.body_kind); less = subst (λ n. length bytes ≤ n) (sym size) (le_refl (length bytes)) }, tt),
       );
-      entries = tt;
+      entries = (refl, (refl, tt));
       short = (zero_short R p0 refl, (inr (a.body_block, a.body_slot, refl), tt));
     })
 
@@ -229,7 +229,7 @@ move_migrated_room sh R m a =
         grows = inl (record { slot = refl; pctfree = pctfree_of R m.obj; taker = Shrink; whose = refl; takes_it = first_takes sh R m.obj (position sh R m.obj a.cursor) (length bytes) a.target a.first });
         others = (inl (quiet_empty R a.head_block a.head_slot p0 (ap is_empty a.migrated.head_kind) refl refl refl), (inl (quiet_empty R a.body_block a.body_slot p1 (ap is_empty a.migrated.body_kind) refl refl refl), (inr refl, tt)));
       });
-      entries = tt;
+      entries = (refl, (refl, (refl, tt)));
       short = (zero_short R p0 refl, (zero_short R p1 refl, (inr (a.body_block, a.body_slot, refl), tt)));
     })
 

@@ -182,12 +182,12 @@ each_written : (P : ℕ → ℕ → Type 0) (ps : List RowPart) → Every (λ (p
 each_written P [] h = tt
 each_written P (p ∷ ps) h = (h.0, each_written P ps h.1)
 
-each_restored : (P : ℕ → ℕ → Type 0) (ps : List RowPart) → Every (λ (p : RowPart). P p.dba p.slot) ps → Every (λ (p : Placed). P p.dba p.slot) (restored (taken_back ps))
+pub each_restored : (P : ℕ → ℕ → Type 0) (ps : List RowPart) → Every (λ (p : RowPart). P p.dba p.slot) ps → Every (λ (p : Placed). P p.dba p.slot) (restored (taken_back ps))
 each_restored P [] h = tt
 each_restored P (p ∷ ps) h = (h.0, each_restored P ps h.1)
 
 -- the slots that a step names, of its parts
-each_named : (ps : List RowPart) → Every (λ (p : RowPart). is_named ps p.dba p.slot ≡ true) ps
+pub each_named : (ps : List RowPart) → Every (λ (p : RowPart). is_named ps p.dba p.slot ≡ true) ps
 each_named [] = tt
 each_named (p ∷ ps) = (
   or_left _ _ (and_from (eqb p.dba p.dba) (eqb p.slot p.slot) (eq-eqb p.dba p.dba refl) (eq-eqb p.slot p.slot refl)),
@@ -195,7 +195,7 @@ each_named (p ∷ ps) = (
 )
 
 -- a slot with a maker is there
-made_there : (R : List Record) (b k : ℕ) (m : Made) (ms : List Made) → makers R b k ≡ m ∷ ms → k < slot_count R b
+pub made_there : (R : List Record) (b k : ℕ) (m : Made) (ms : List Made) → makers R b k ≡ m ∷ ms → k < slot_count R b
 made_there R b k m ms e = elim (cases_Bool (leb (slot_count R b) k)) [
   | inr f ↦ leb-false (slot_count R b) k f
   | inl y ↦ absurd (let x : ◌≡◌ {A = List Made} [] (m ∷ ms) = sym (beyond R b k (leb-true (slot_count R b) k y)).1 ∙ e in cc)
@@ -522,7 +522,7 @@ Short i ms = (length i.bytes ≤ 1800) × Every (λ (m : Made). length m.old.byt
 abbrev pub ShortIn : List Record → Type 0
 ShortIn R = (b k : ℕ) → Short (image R b k) (makers R b k)
 
-short_part : (R : List Record) (p : RowPart) → ShortIn R → IsShort R p → length p.new.bytes ≤ 1800
+pub short_part : (R : List Record) (p : RowPart) → ShortIn R → IsShort R p → length p.new.bytes ≤ 1800
 short_part R p h (inl l) = l
 short_part R p h (inr w) = subst (λ (x : List ℕ). length x ≤ 1800) (sym w.2) (h w.0 w.1).0
 
@@ -547,7 +547,7 @@ told_bytes i None = refl
 told_bytes i (Some zero) = refl
 told_bytes i (Some (suc c)) = refl
 
-abbrev EffectSmall : List Record → Effect → Type 0
+abbrev pub EffectSmall : List Record → Effect → Type 0
 EffectSmall R (Adds st) = StepRoom R st × AllPut R st 0 st.parts
 EffectSmall R _ = Unit {0}
 
@@ -581,11 +581,11 @@ room_effect sh R (Cleans d cs) f l x h y r b =
       | false ↦ r b
     ]
 
-record Small (sh : Shape) (R : List Record) : Type 0 where
-  room : (b : ℕ) → RoomIn R b
-  short : ShortIn R
+pub record Small (sh : Shape) (R : List Record) : Type 0 where
+  pub room : (b : ℕ) → RoomIn R b
+  pub short : ShortIn R
 
-small_of : (sh : Shape) (R : List Record) (r : Record) → Whole sh R → IsKindAllowed sh R r → AreAllowed sh R → EffectSmall R (effect_of r)
+pub small_of : (sh : Shape) (R : List Record) (r : Record) → Whole sh R → IsKindAllowed sh R r → AreAllowed sh R → EffectSmall R (effect_of r)
 small_of sh R r w a h = go r a (room_of sh R r a) (shape_of sh R r (segments sh R h) a)
   where
     go : (r : Record) → IsKindAllowed sh R r → EffectRoom R (effect_of r) → RecordShape sh R r → EffectSmall R (effect_of r)
@@ -597,7 +597,7 @@ small_of sh R r w a h = go r a (room_of sh R r a) (shape_of sh R r (segments sh 
     go (Move y) k x z = (x, z.shape.puts)
     go _ k x z = tt
 
-small : (sh : Shape) (R : List Record) → AreAllowed sh R → Small sh R
+pub small : (sh : Shape) (R : List Record) → AreAllowed sh R → Small sh R
 small sh [] h = record { room = λ b. record { used = omega arith; entries_from = omega arith; entries_to = omega arith; slots = omega arith }; short = λ b k. (omega arith, tt) }
 small sh (r ∷ R) h =
     let s = small sh R h.0 in

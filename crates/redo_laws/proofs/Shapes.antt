@@ -47,6 +47,7 @@ pub record Puts (R : List Record) (st : Step) (i : ℕ) (p : RowPart) : Type 0 w
   pub writer : p.new.writer ≡ st.by
   pub row : is_empty p.new.kind ≡ false → p.new.row ≡ st.row
   pub room : (u : ℕ) → st.by ≡ By u → p.new.room ≡ next_room (ended_in R) p.old (length p.new.bytes)
+  pub room_at : (m : ℕ) → st.by ≡ At m → p.new.room ≡ length p.new.bytes
   pub none : is_empty p.new.kind ≡ true → p.new.bytes ≡ []
 
 abbrev pub AllPut : List Record → Step → ℕ → List RowPart → Type 0

@@ -9,3 +9,4 @@ pub mod Forgotten
 pub mod Homes
 pub mod Room
 pub mod Past
+pub mod Fit

@@ -10,7 +10,7 @@ pub use first::{
     numbers_are_given_once, others_are_left, prefixes_are_lawful, records_name_tables,
 };
 pub use rows::{
-    blocks_have_room, blocks_stay, heads_name_bodies, past_is_lost, rows_are_spread,
-    slots_are_at_home, slots_are_chains, undo_is_enough, view_of_no_transaction_is_the_table,
-    views_stay,
+    blocks_have_room, blocks_stay, heads_name_bodies, past_is_lost, records_fit_blocks,
+    rows_are_spread, slots_are_at_home, slots_are_chains, undo_is_enough,
+    view_of_no_transaction_is_the_table, views_stay,
 };

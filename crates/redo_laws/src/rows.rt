@@ -1,6 +1,7 @@
 // The laws on which every scan rests: where rows are, that they stay, and that undo leads to them.
 ghost use Rattle.redo_laws.specs.Chain.{SlotsAreChains};
 ghost use Rattle.redo_laws.specs.Economy.{UndoIsEnough};
+ghost use Rattle.redo_laws.specs.Fit.{RecordsFitBlocks};
 ghost use Rattle.redo_laws.specs.Homes.{HeadsNameBodies, SlotsAreAtHome};
 ghost use Rattle.redo_laws.specs.Past.{PastIsLost};
 ghost use Rattle.redo_laws.specs.Room.{BlocksHaveRoom};
@@ -61,4 +62,10 @@ pub fn heads_name_bodies()
 /// number stands in no block, since the transaction itself took its slot anew.
 pub fn past_is_lost()
     ensures { PastIsLost }
+{}
+
+/// Each part of an allowed record names a slot that is there or is the next one, at most the hundredth, and a list entry
+/// that is there or is the next one, at most the eighth; its image is small, and it states the one that stands there.
+pub fn records_fit_blocks()
+    ensures { RecordsFitBlocks }
 {}

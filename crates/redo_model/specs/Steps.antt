@@ -1,7 +1,7 @@
 -- The row records and moves of a list, those that stand, and whose is the newest of them. A rollback takes a
 -- transaction's changes back one by one (Oracle Database Concepts, "Rollback of Transactions"); the undo address by which
 -- a Back names the record that it takes back is this engine's own.
-use Rattle.std.specs.Prelude.{ℕ, Bool, false, cond, not, ◌&&◌, ◌||◌, eqb, List, [], ◌∷◌, Option, Some, None, filter}
+use Rattle.std.specs.Prelude.{◌≡◌, ℕ, Bool, true, false, cond, not, ◌&&◌, ◌||◌, eqb, List, [], ◌∷◌, Option, Some, None, filter}
 use Rattle.seg_base.specs.declared.slot.Writer.{Writer}
 use Rattle.seg_base.specs.declared.slot.Writer.TheVariants.{By, At}
 use Rattle.seg_base.specs.declared.slot.UndoAddr.{UndoAddr}
@@ -73,3 +73,6 @@ taken_after _ a was = was
 abbrev pub is_taken_back : List Record → UndoAddr → Bool
 is_taken_back [] a = false
 is_taken_back (r ∷ R) a = taken_after (effect_of r) a (is_taken_back R a)
+
+abbrev pub IsTakenBack : List Record → UndoAddr → Type 0
+IsTakenBack R a = is_taken_back R a ≡ true

@@ -35,6 +35,9 @@ has_begun (r ∷ R) t = begun_after (txn_effect r) t (has_begun R t)
 abbrev pub has_ended : List Record → ℕ → Bool
 has_ended R t = has_begun R t && not (is_active R t)
 
+abbrev pub HasEnded : List Record → ℕ → Type 0
+HasEnded R t = has_ended R t ≡ true
+
 abbrev pub committed_after : TxnEffect → ℕ → ℕ → Option ℕ → Option ℕ
 committed_after (Commits c) n t was = cond (eqb c.txn t) (Some (suc n)) was
 committed_after _ n t was = was
@@ -101,6 +104,9 @@ forgotten_after _ entry was = was
 abbrev pub is_forgotten : List Record → ℕ → Bool
 is_forgotten [] t = false
 is_forgotten (r ∷ R) t = forgotten_after (txn_effect r) (entry_of R t) (is_forgotten R t)
+
+abbrev pub IsForgotten : List Record → ℕ → Type 0
+IsForgotten R t = is_forgotten R t ≡ true
 
 abbrev pub session_after : TxnEffect → ℕ → Option ℕ → Option ℕ
 session_after (Begins g) n was = cond (eqb g.session n) (Some g.txn) was

@@ -1,0 +1,9 @@
+-- The same fault of a page.
+use Rattle.page_bytes.specs.declared.fault.PageFault.{PageFault}
+use Rattle.page_bytes.specs.declared.fault.PageFault.TheVariants as page
+use Rattle.undo_block.specs.declared.fault.UndoFault.{UndoFault}
+use Rattle.undo_block.specs.declared.fault.UndoFault.TheVariants.{BadPage, NoMemory}
+
+abbrev pub fault_of : PageFault → UndoFault
+fault_of (page.BadPage offset) = BadPage offset
+fault_of page.NoMemory = NoMemory

@@ -1,0 +1,5 @@
+pub mod Faults
+pub mod Parts
+pub mod UndoPage
+pub mod Again
+pub mod Held

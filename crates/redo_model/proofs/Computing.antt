@@ -1,6 +1,6 @@
 -- The small runs compute to what they are to show.
 use Rattle.std.proofs.Common.{refl}
-use Rattle.redo_model.specs.Computed.{NineRight, MigratedRight, MovedRight}
+use Rattle.redo_model.specs.Computed.{NineRight, MigratedRight, MovedRight, ReusedRight}
 
 pub nine_right : NineRight
 nine_right = record { lsn = refl; commits = refl; table = refl; before = refl; own = refl; ended = refl; number = refl; slots = refl; slot = refl; free = refl; class = refl; kept = refl; entries = refl; entry = refl; low = refl; high = refl; places = refl; formatted = refl; unformatted = refl; free_extents = refl; at_0 = refl; at_1 = refl; images = refl; undo = refl }
@@ -10,3 +10,6 @@ migrated_right = record { free_three = refl; class_three = refl; own = refl; oth
 
 pub moved_right : MovedRight
 moved_right = record { updated_own = refl; updated_others = refl; restored = refl; filled_rows = refl; filled_before = refl; free_filled = refl; returned_row = refl; free_returned = refl; takes = refl; moved_row = refl; moved_from = refl; moved_table = refl; moved_seen = refl; moved_seen_before = refl; moved_not_twice = refl; moved_commits = refl; lowered_extents = refl; lowered_high = refl; lowerings = refl; vacant = refl; not_vacant = refl }
+
+pub reused_right : ReusedRight
+reused_right = record { used_before = refl; used_by_move = refl; used_by_both = refl; next = refl; used = refl; still_used = refl; sequence = refl; holder = refl; other_holder = refl; none_next = refl; not_reused_before = refl; reused_now = refl; new_not_reused = refl; gone_first = refl; gone = refl; own = refl; others = refl; needed = refl; needed_by_past = refl; too_old = refl; not_needed = refl }

@@ -9,7 +9,7 @@ use Rattle.redo_model.proofs.Cleaned.{clean_one}
 use Rattle.redo_model.specs.AllowedRows.{migrates_plain, deletes_plain}
 use Rattle.redo_model.specs.AllowedMoves.{moves_plain}
 use Rattle.redo_model.specs.Lawful.{AreAllowed, IsLawful}
-use Rattle.redo_model.specs.Worked.{small, letters, hello, nine, three, migrated, backed, migrated_for_good, updated, restored_body, filled, returned, moved, lowered}
+use Rattle.redo_model.specs.Worked.{small, letters, hello, nine, three, migrated, backed, migrated_for_good, updated, restored_body, filled, returned, moved, half_deleted, reused, lowered}
 
 -- a test of numbers below n holds at each where it computes
 below : (n : ℕ) (p : ℕ → Bool) → agree_below p (λ j. false) n ≡ true → (j : ℕ) → j < n → p j ≡ false
@@ -460,6 +460,61 @@ moved_row = (
     });
   },
 )
+
+-- undo block 37 again
+
+reused_begin : AreAllowed small (drop 1 half_deleted)
+reused_begin = (moved_row, record { called_for = tt; kind = record { number = refl; session_from = lit≤ tt; session_to = lit≤ tt; none_open = refl; entry = least_unused moved 5 0 (lit< tt) refl refl refl } })
+
+reused_delete_5 : AreAllowed small half_deleted
+reused_delete_5 = (
+  reused_begin,
+  record {
+    called_for = tt;
+    kind = deletes_plain (record {
+      change = record {
+        change = record { table = there (lit≤ tt); active = refl; entry = refl; undo = record { current = refl; sequence = refl; place = refl; fits = refl }; previous = refl };
+        was = letters 1800 98;
+        there = refl;
+        free = λ h. absurd (true≢false (sym h));
+      };
+      block = 44;
+      slot = 2;
+      plain = record { kind = refl; row = refl };
+      entry = 0;
+      enters = record { entry_is = refl };
+      parts = refl;
+    });
+  },
+)
+
+reused_block : AreAllowed small (drop 1 reused)
+reused_block = (reused_delete_5, record { called_for = tt; kind = record { block = record { next = refl }; sequence = refl } })
+
+pub reused_lawful : IsLawful small reused
+reused_lawful = record {
+  allowed = (
+    reused_block,
+    record {
+      called_for = refl;
+      kind = deletes_plain (record {
+        change = record {
+          change = record { table = there (lit≤ tt); active = refl; entry = refl; undo = record { current = refl; sequence = refl; place = refl; fits = refl }; previous = refl };
+          was = letters 1790 122;
+          there = refl;
+          free = λ h. absurd (true≢false (sym h));
+        };
+        block = 43;
+        slot = 2;
+        plain = record { kind = refl; row = refl };
+        entry = 0;
+        enters = record { entry_is = refl };
+        parts = refl;
+      });
+    },
+  );
+  whole = refl;
+}
 
 -- the lowering
 

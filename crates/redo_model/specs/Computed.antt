@@ -10,11 +10,11 @@ use Rattle.redo_model.specs.Steps.{standing}
 use Rattle.redo_model.specs.Tables.{table_at, view, table_rows}
 use Rattle.redo_model.specs.Slots.{image, slot_count, entry, entry_count}
 use Rattle.redo_model.specs.Blocks.{free_of, class_of_block, takes_row, is_vacant_block}
-use Rattle.redo_model.specs.Versions.{images, row_at, rows_at}
+use Rattle.redo_model.specs.Versions.{makers, counts, images, row_at, rows_at}
 use Rattle.redo_model.specs.Segments.{extents_of, data_blocks, low_mark, high_mark, is_formatted, is_free_extent, under_high, first_unformatted}
 use Rattle.redo_model.specs.Kept.{kept_class}
-use Rattle.redo_model.specs.Undo.{undo_used, undo_holder, next_undo}
-use Rattle.redo_model.specs.Worked.{small, letters, hello, row_by, head_by, body_by, nine, three, migrated, backed, migrated_for_good, updated, restored_body, filled, returned, left_behind, moved_to, moved, lowered}
+use Rattle.redo_model.specs.Undo.{undo_used, undo_sequence, is_reused, undo_holder, next_undo, needed_on}
+use Rattle.redo_model.specs.Worked.{small, letters, hello, row_by, head_by, body_by, nine, three, migrated, backed, migrated_for_good, updated, restored_body, filled, returned, left_behind, moved_to, moved, undo_at, again_at, row_5_gone, row_3_gone, half_deleted, reused, lowered}
 
 -- a row is inserted and committed
 pub record NineRight : Type 0 where
@@ -93,3 +93,27 @@ pub record MovedRight : Type 0 where
   pub lowerings : lowering_count lowered ≡ 1
   pub vacant : is_vacant_block lowered 45 ≡ true
   pub not_vacant : is_vacant_block lowered 44 ≡ false
+
+-- undo block 37 is taken into use a second time
+pub record ReusedRight : Type 0 where
+  pub used_before : undo_used half_deleted 37 ≡ 64 + 64 + 64 + 164 + 64 + 464 + 1864 + 64 + 64 + 64 + 464
+  pub used_by_move : undo_used moved 38 ≡ 1564 + 64
+  pub used_by_both : undo_used half_deleted 38 ≡ 1564 + 64 + 1864
+  pub next : next_undo small half_deleted ≡ Some 37
+  pub used : undo_used reused 37 ≡ 1854
+  pub still_used : undo_used reused 38 ≡ undo_used half_deleted 38
+  pub sequence : undo_sequence reused 37 ≡ 2
+  pub holder : undo_holder reused 37 ≡ Some 6
+  pub other_holder : undo_holder reused 38 ≡ Some 6
+  pub none_next : next_undo small reused ≡ None
+  pub not_reused_before : is_reused half_deleted (undo_at 3) ≡ false
+  pub reused_now : is_reused reused (undo_at 3) ≡ true
+  pub new_not_reused : is_reused reused again_at ≡ false
+  pub gone_first : image reused 44 2 ≡ row_5_gone
+  pub gone : image reused 43 2 ≡ row_3_gone
+  pub own : view reused 1 5 6 5 ≡ None
+  pub others : row_at reused 44 2 5 0 ≡ Some (5, letters 1800 98)
+  pub needed : needed_on (λ w u. counts reused 5 0 w) (makers reused 43 2) ≡ again_at ∷ []
+  pub needed_by_past : needed_on (λ w u. counts reused 1 0 w) (makers reused 43 0) ≡ undo_at 9 ∷ undo_at 3 ∷ []
+  pub too_old : map (is_reused reused) (undo_at 9 ∷ undo_at 3 ∷ []) ≡ true ∷ true ∷ []
+  pub not_needed : needed_on (λ w u. counts reused 5 0 w) (makers reused 43 0) ≡ []

@@ -226,6 +226,47 @@ moved =
     ∷ Reuse (record { block = 38; sequence = 1 })
     ∷ returned
 
+-- the places that rows 5 and 3 leave: the part of undo behind the second one is the first one of the second use of undo
+-- block 37
+abbrev pub row_5_gone : Slot
+row_5_gone = record { kind = Empty; writer = By 6; undo = Some (next_undo_at 2); row = 0; link = None; bytes = []; room = 1800 }
+
+abbrev pub again_at : UndoAddr
+again_at = record { block = 37; seq = 2; nth = 0 }
+
+abbrev pub row_3_gone : Slot
+row_3_gone = record { kind = Empty; writer = By 6; undo = Some again_at; row = 0; link = None; bytes = []; room = 1790 }
+
+-- row 5 is deleted
+abbrev pub half_deleted : List Record
+half_deleted =
+    Delete (record {
+      txn = 6;
+      entry = 5;
+      obj = 1;
+      row = 5;
+      undo = next_undo_at 2;
+      previous = None;
+      parts = part 44 2 (Some 0) (row_by (By 4) 8 5 (letters 1800 98) 1800) row_5_gone ∷ [];
+    })
+    ∷ begin 6 5
+    ∷ moved
+
+-- And row 3. Its part doesn't fit in undo block 38, so that block 37 is taken into use again: its parts are lost.
+abbrev pub reused : List Record
+reused =
+    Delete (record {
+      txn = 6;
+      entry = 5;
+      obj = 1;
+      row = 3;
+      undo = again_at;
+      previous = Some (record { block = 38; nth = 2 });
+      parts = part 43 2 (Some 0) (row_by (At 1) 2 3 (letters 1790 122) 1790) row_3_gone ∷ [];
+    })
+    ∷ Reuse (record { block = 37; sequence = 2 })
+    ∷ half_deleted
+
 -- all blocks are formatted, a second extent is taken, and released again
 abbrev pub lowered : List Record
 lowered =

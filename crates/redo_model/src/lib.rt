@@ -12,5 +12,5 @@ mod runs;
 pub use blocks::block_is_its_slots;
 pub use runs::{
     inserted_row_computes, migrated_row_computes, moved_row_computes,
-    records_out_of_place_are_refused, runs_of_all_kinds_are_lawful,
+    records_out_of_place_are_refused, reused_undo_computes, runs_of_all_kinds_are_lawful,
 };

@@ -1,0 +1,9 @@
+pub mod Laws
+pub mod Loop
+pub mod FieldForms
+pub mod RowForms
+pub mod SpaceForms
+pub mod TransactionForms
+pub mod Records
+pub mod Adding
+pub mod Decoded

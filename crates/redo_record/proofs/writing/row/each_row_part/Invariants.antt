@@ -1,0 +1,7 @@
+use Rattle.std.proofs.Common.{◌≡◌, ◌++◌, take}
+use Rattle.std.specs.List.{flat_map}
+use Rattle.redo_record.specs.Spelling.{row_part}
+use Rattle.redo_record.proofs.writing.row.each_row_part.Given as goal
+
+abbrev pub invariant-loop-part : goal.invariant-loop-part
+invariant-loop-part l = l.out.items ≡ l.fn.out.items ++ flat_map row_part (take l.part-index l.parts)

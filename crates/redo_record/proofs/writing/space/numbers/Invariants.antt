@@ -1,0 +1,8 @@
+use Rattle.std.proofs.Common.{◌≡◌, ◌++◌, take}
+use Rattle.std.specs.List.{flat_map}
+use Rattle.std.specs.Int.{w32}
+use Rattle.redo_record.specs.Spelling.{big_endian}
+use Rattle.redo_record.proofs.writing.space.numbers.Given as goal
+
+abbrev pub invariant-loop-number : goal.invariant-loop-number
+invariant-loop-number l = l.out.items ≡ l.fn.out.items ++ flat_map (big_endian w32) (take l.number-index l.numbers)

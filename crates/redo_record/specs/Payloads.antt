@@ -1,0 +1,12 @@
+-- Whole records one behind the other.
+use Rattle.std.specs.Prelude.{ℕ, List}
+use Rattle.std.specs.List.{flat_map, AllByRecursion}
+use Rattle.redo_record.specs.declared.record.Record.{Record}
+use Rattle.redo_record.specs.Spelling.{spelling}
+use Rattle.redo_record.specs.Spelled.{HasSpelling}
+
+abbrev pub payload : List Record → List ℕ
+payload recs = flat_map spelling recs
+
+abbrev pub HaveSpellings : List Record → Type 0
+HaveSpellings recs = AllByRecursion HasSpelling recs

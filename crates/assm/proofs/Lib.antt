@@ -11,3 +11,4 @@ pub mod Stores
 pub mod Acts
 pub mod Histories
 pub mod Texts
+pub mod WorkedRow

@@ -14,3 +14,4 @@ pub mod Legal
 pub mod Runs
 pub mod Status
 pub mod Top
+pub mod Worked

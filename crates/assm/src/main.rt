@@ -8,6 +8,7 @@ mod draft;
 mod entry;
 mod fault;
 mod labels;
+mod laws;
 mod line;
 mod record;
 mod rows;

@@ -34,3 +34,6 @@ pub mod PairsLaw
 pub mod After
 pub mod PastLaw
 pub mod FitLaw
+pub mod Apart
+pub mod InOrder
+pub mod ScanLaw

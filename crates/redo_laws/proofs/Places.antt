@@ -80,7 +80,7 @@ in_front b n xs ys h t =
 
 -- a data block of some extents is in one of them
 
-in_range : (c b n : ℕ) → is_in c (blocks_from b n) ≡ true → (b ≤ c) × (c < b + n)
+pub in_range : (c b n : ℕ) → is_in c (blocks_from b n) ≡ true → (b ≤ c) × (c < b + n)
 in_range c b zero h = absurd (true≢false (sym h))
 in_range c b (suc n) h =
     elim (or_cases (eqb b c) (is_in c (blocks_from (suc b) n)) h) [
@@ -236,7 +236,7 @@ advance_under sh R a m s o b n h f =
 pub front_of : (sh : Shape) (n : ℕ) (es : List Extent) → data_of sh 0 es ≡ data_of sh 0 (take n es) ++ data_of sh (0 + length (take n es)) (drop n es)
 front_of sh n es = ap (data_of sh 0) (sym (take-append-drop n es)) ∙ data_of-append sh 0 (take n es) (drop n es)
 
-has_taken : (n : ℕ) (es : List Extent) (x : ℕ) → has_extent (take n es) x ≡ true → has_extent es x ≡ true
+pub has_taken : (n : ℕ) (es : List Extent) (x : ℕ) → has_extent (take n es) x ≡ true → has_extent es x ≡ true
 has_taken zero es x h = absurd (true≢false (sym h))
 has_taken (suc n) [] x h = h
 has_taken (suc n) (e ∷ es) x h = elim (or_cases (eqb e.number x) (has_extent (take n es) x) h) [ inl y ↦ or_left (eqb e.number x) _ y | inr z ↦ or_right (eqb e.number x) _ (has_taken n es x z) ]

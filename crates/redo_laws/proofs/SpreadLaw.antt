@@ -39,7 +39,7 @@ row_holds i x e = elim (cases_Bool (holds_row i.kind)) [
 ]
 
 -- a row that a view has was made in the table
-view_table : (sh : Shape) (R : List Record) (o s t n : ℕ) (x : List ℕ) → Whole sh R → commit_count R ≤ s → IsOpen R t → view R o s t n ≡ Some x → RowOf R o n
+pub view_table : (sh : Shape) (R : List Record) (o s t n : ℕ) (x : List ℕ) → Whole sh R → commit_count R ≤ s → IsOpen R t → view R o s t n ≡ Some x → RowOf R o n
 view_table sh R o s t n x w l open' e = newest_table R (λ v a. counts R s t v) (standing R) o n x w.objects (sym (view_is_newest sh R o s t n w.fit l open') ∙ e)
 
 -- a slot that gives a row is in a block of a table, and the row is of that table
@@ -63,7 +63,7 @@ pub present_block : (sh : Shape) (R : List Record) (o b : ℕ) → Segments sh R
 present_block sh R o b s p = record { here = contains_in (under_high sh R o) b (s.under o b p.0 p.1 p.2); formatted = p.2 }
 
 -- a slot that gives a row is there
-slot_there : (R : List Record) (b k s t n : ℕ) (x : List ℕ) → row_at R b k s t ≡ Some (n, x) → k < slot_count R b
+pub slot_there : (R : List Record) (b k s t n : ℕ) (x : List ℕ) → row_at R b k s t ≡ Some (n, x) → k < slot_count R b
 slot_there R b k s t n x e = elim (cases_Bool (leb (slot_count R b) k)) [
   | inr f ↦ leb-false (slot_count R b) k f
   | inl y ↦

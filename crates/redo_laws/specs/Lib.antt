@@ -10,3 +10,4 @@ pub mod Homes
 pub mod Room
 pub mod Past
 pub mod Fit
+pub mod Scan

@@ -5,6 +5,7 @@ ghost use Rattle.redo_laws.specs.Fit.{RecordsFitBlocks};
 ghost use Rattle.redo_laws.specs.Homes.{HeadsNameBodies, SlotsAreAtHome};
 ghost use Rattle.redo_laws.specs.Past.{PastIsLost};
 ghost use Rattle.redo_laws.specs.Room.{BlocksHaveRoom};
+ghost use Rattle.redo_laws.specs.Scan.{ScansAreWhole};
 ghost use Rattle.redo_laws.specs.Stays.{BlocksStay, ViewsStay};
 ghost use Rattle.redo_laws.specs.Views.{RowsAreSpread, ViewOfNone};
 
@@ -68,4 +69,11 @@ pub fn past_is_lost()
 /// that is there or is the next one, at most the eighth; its image is small, and it states the one that stands there.
 pub fn records_fit_blocks()
     ensures { RecordsFitBlocks }
+{}
+
+/// A scan begins after some records and reads each block after more of them. Of each row number it finds what its view
+/// has, the row once or none, where its transaction adds nothing meanwhile and no block is formatted again. In order of
+/// number its rows are those of the view.
+pub fn scans_are_whole()
+    ensures { ScansAreWhole }
 {}

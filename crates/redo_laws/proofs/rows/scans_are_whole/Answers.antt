@@ -1,0 +1,5 @@
+use Rattle.redo_laws.proofs.ScanLaw as laws
+use Rattle.redo_laws.proofs.rows.scans_are_whole.Goals as goal
+
+pub returns : goal.returns
+returns c = laws.scans_are_whole

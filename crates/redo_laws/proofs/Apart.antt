@@ -97,7 +97,7 @@ distinct-filter p (b ∷ bs) h =
       | false ↦ distinct-filter p bs h.1
     ]
 
-distinct_data : (sh : Shape) (i : ℕ) (es : List Extent) → Apart es → Distinct (data_of sh i es)
+pub distinct_data : (sh : Shape) (i : ℕ) (es : List Extent) → Apart es → Distinct (data_of sh i es)
 distinct_data sh i [] h = tt
 distinct_data sh i (e ∷ es) h =
     distinct-append (extent_data sh i e.number) (data_of sh (suc i) es)

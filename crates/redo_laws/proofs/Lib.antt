@@ -37,3 +37,4 @@ pub mod FitLaw
 pub mod Apart
 pub mod InOrder
 pub mod ScanLaw
+pub mod ApartLaw

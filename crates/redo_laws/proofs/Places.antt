@@ -137,7 +137,7 @@ a_table sh R o s t = record { least = t.least; most = le_trans t.most s.tables }
 
 -- an Extend
 
-has_added : (es : List Extent) (e : Extent) (x : ℕ) → has_extent (es ++ e ∷ []) x ≡ true → (has_extent es x ≡ true) ⊎ (e.number ≡ x)
+pub has_added : (es : List Extent) (e : Extent) (x : ℕ) → has_extent (es ++ e ∷ []) x ≡ true → (has_extent es x ≡ true) ⊎ (e.number ≡ x)
 has_added [] e x h = elim (or_cases (eqb e.number x) false h) [ inl y ↦ inr (eqb-true e.number x y) | inr z ↦ inl z ]
 has_added (f ∷ es) e x h =
     elim (or_cases (eqb f.number x) (has_extent (es ++ e ∷ []) x) h) [

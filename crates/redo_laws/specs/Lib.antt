@@ -11,3 +11,4 @@ pub mod Room
 pub mod Past
 pub mod Fit
 pub mod Scan
+pub mod Apart

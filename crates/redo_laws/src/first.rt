@@ -1,5 +1,6 @@
 // The first laws: numbers, tables and marks, and what one more record does.
 ghost use Rattle.redo_laws.specs.Added.{ImagesAfterOne, ImagesAfterSteps, MovesKeepTables, OthersAreLeft};
+ghost use Rattle.redo_laws.specs.Apart.{ExtentsAreApart};
 ghost use Rattle.redo_laws.specs.Forgotten.{ForgottenHavePassed};
 ghost use Rattle.redo_laws.specs.Numbers.{NumbersAreGivenOnce};
 ghost use Rattle.redo_laws.specs.Tables.{LowMarkRule, PrefixesAreLawful, RecordsNameTables};
@@ -47,4 +48,10 @@ pub fn forgotten_have_passed()
 /// A row record or a Move puts its images over those of the slots that its parts name, and a Back uncovers them again.
 pub fn images_after_steps()
     ensures { ImagesAfterSteps }
+{}
+
+/// Each extent of a table is a whole one of the store, stands in one table alone, and there once, of at most 900; so does
+/// each data block, past the undo blocks and within the store.
+pub fn extents_are_apart()
+    ensures { ExtentsAreApart }
 {}

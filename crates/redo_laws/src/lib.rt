@@ -6,8 +6,9 @@ mod first;
 mod rows;
 
 pub use first::{
-    forgotten_have_passed, images_after_one, images_after_steps, low_mark_rule, moves_keep_tables,
-    numbers_are_given_once, others_are_left, prefixes_are_lawful, records_name_tables,
+    extents_are_apart, forgotten_have_passed, images_after_one, images_after_steps, low_mark_rule,
+    moves_keep_tables, numbers_are_given_once, others_are_left, prefixes_are_lawful,
+    records_name_tables,
 };
 pub use rows::{
     blocks_have_room, blocks_stay, heads_name_bodies, past_is_lost, records_fit_blocks,

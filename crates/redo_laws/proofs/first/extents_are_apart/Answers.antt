@@ -1,0 +1,5 @@
+use Rattle.redo_laws.proofs.ApartLaw as laws
+use Rattle.redo_laws.proofs.first.extents_are_apart.Goals as goal
+
+pub returns : goal.returns
+returns c = laws.extents_are_apart

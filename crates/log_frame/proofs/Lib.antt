@@ -6,3 +6,4 @@ pub mod Append
 pub mod Making
 pub mod Laws
 pub mod WholeLog
+pub mod Spelled

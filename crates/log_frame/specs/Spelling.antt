@@ -1,5 +1,5 @@
 -- The bytes of a log are its head and its groups, and then a closed gate. What follows that is no part of the log.
-use Rattle.std.specs.Prelude.{◌≡◌, ◌≢◌, ◌⊎◌, ℕ, List, [], ◌∷◌, ◌++◌, true, false}
+use Rattle.std.specs.Prelude.{◌≡◌, ◌≢◌, ◌⊎◌, ℕ, List, [], ◌∷◌, ◌++◌, drop, true, false}
 use Rattle.std.specs.List.{AllByRecursion}
 use Rattle.seg_base.specs.declared.shape.Shape.{Shape}
 use Rattle.seg_base.specs.Places.{is_shape}
@@ -37,3 +37,11 @@ pub record IsClosed (bytes : List ℕ) : Type 0 where
   pub shut : gate ≢ 1
   pub rest : List ℕ
   pub is : bytes ≡ gate ∷ rest
+
+-- from a place on, the bytes are these groups and a closed gate
+pub record SpelledFrom (bytes : List ℕ) (from : ℕ) (groups : List (List ℕ)) : Type 0 where
+  pub payloads : AllByRecursion IsPayload groups
+  pub gate : ℕ
+  pub shut : gate ≢ 1
+  pub rest : List ℕ
+  pub is : drop from bytes ≡ frames groups ++ gate ∷ rest

@@ -13,11 +13,11 @@ use Rattle.redo_laws.proofs.Places.{is_in, in_contains, in_data, has_added, has_
 use Rattle.redo_laws.proofs.Apart.{Apart, apart_extents, Distinct, distinct_data}
 
 -- each extent is a whole one, and there are at most 900
-record Placed (sh : Shape) (R : List Record) (o : ℕ) : Type 0 where
-  whole : (x : ℕ) → has_extent (extents_of R o) x ≡ true → is_extent sh x ≡ true
-  few : length (extents_of R o) ≤ 900
+pub record Placed (sh : Shape) (R : List Record) (o : ℕ) : Type 0 where
+  pub whole : (x : ℕ) → has_extent (extents_of R o) x ≡ true → is_extent sh x ≡ true
+  pub few : length (extents_of R o) ≤ 900
 
-take_short : (n : ℕ) (es : List Extent) → length (take n es) ≤ length es
+pub take_short : (n : ℕ) (es : List Extent) → length (take n es) ≤ length es
 take_short zero es = omega arith
 take_short (suc n) [] = omega arith
 take_short (suc n) (e ∷ es) = let l = take_short n es in omega (arith, l)
@@ -52,7 +52,7 @@ placed_step sh R (Lower l) o a h =
     }
 placed_step sh R _ o a h = record { whole = h.whole; few = h.few }
 
-placed : (sh : Shape) (R : List Record) (o : ℕ) → AreAllowed sh R → Placed sh R o
+pub placed : (sh : Shape) (R : List Record) (o : ℕ) → AreAllowed sh R → Placed sh R o
 placed sh [] o h = record { whole = λ x k. absurd (true≢false (sym k)); few = omega arith }
 placed sh (r ∷ R) o h = placed_step sh R r o h.1.kind (placed sh R o h.0)
 

@@ -38,3 +38,8 @@ pub mod Apart
 pub mod InOrder
 pub mod ScanLaw
 pub mod ApartLaw
+pub mod Bounds
+pub mod SpelledRows
+pub mod SpelledCleans
+pub mod SpelledKinds
+pub mod SpelledLaw

@@ -73,7 +73,7 @@ over_of R t i s e f n = elim (cases_Bool (is_active R t)) [
   | inr g ↦ (g, sym (cond-false _ _ _ g) ∙ sym (at_user R t i e) ∙ f)
 ]
 
-same_some : (c d : ℕ) → ◌≡◌ {A = Option ℕ} (Some c) (Some d) → c ≡ d
+pub same_some : (c d : ℕ) → ◌≡◌ {A = Option ℕ} (Some c) (Some d) → c ≡ d
 same_some c d e = cc
 
 passed : (R : List Record) (t i control : ℕ) → user_of R i ≡ Some t → TakesEntry R i control → Passed R t control
@@ -94,7 +94,7 @@ pub record Rises (R : List Record) (i control : ℕ) : Type 0 where
 least_of_all : (R : List Record) (t c j control : ℕ) → TxnTable R → user_of R j ≡ Some t → commit_number R t ≡ Some c → entry_state R j ≡ Committed c
 least_of_all R t c j control h u e = at_user R t j u ∙ cond-false _ _ _ (h.done t c e).0 ∙ ap state_when_over e
 
-rises : (R : List Record) (i control : ℕ) → TxnTable R → TakesEntry R i control → Rises R i control
+pub rises : (R : List Record) (i control : ℕ) → TxnTable R → TakesEntry R i control → Rises R i control
 rises R i control h (takes_unused a) = record { more = omega (arith, a.control_stays); most = let c = h.control in omega (arith, a.control_stays); below = λ t c j e f g. let l = h.high t c g f in omega (arith, a.control_stays) }
 rises R i control h (takes_rolled_back a) = record { more = omega (arith, a.control_stays); most = let c = h.control in omega (arith, a.control_stays); below = λ t c j e f g. let l = h.high t c g f in omega (arith, a.control_stays) }
 rises R i control h (takes_committed a) = go (user_of R i) refl

@@ -12,3 +12,4 @@ pub mod Past
 pub mod Fit
 pub mod Scan
 pub mod Apart
+pub mod Spelled

@@ -6,6 +6,7 @@ ghost use Rattle.redo_laws.specs.Homes.{HeadsNameBodies, SlotsAreAtHome};
 ghost use Rattle.redo_laws.specs.Past.{PastIsLost};
 ghost use Rattle.redo_laws.specs.Room.{BlocksHaveRoom};
 ghost use Rattle.redo_laws.specs.Scan.{ScansAreWhole};
+ghost use Rattle.redo_laws.specs.Spelled.{RecordsAreSpelled};
 ghost use Rattle.redo_laws.specs.Stays.{BlocksStay, ViewsStay};
 ghost use Rattle.redo_laws.specs.Views.{RowsAreSpread, ViewOfNone};
 
@@ -76,4 +77,9 @@ pub fn records_fit_blocks()
 /// number its rows are those of the view.
 pub fn scans_are_whole()
     ensures { ScansAreWhole }
+{}
+
+/// In a store within its limits, after fewer than 2 to the 64th records, each allowed record has a spelling.
+pub fn records_are_spelled()
+    ensures { RecordsAreSpelled }
 {}

@@ -43,3 +43,4 @@ pub mod SpelledRows
 pub mod SpelledCleans
 pub mod SpelledKinds
 pub mod SpelledLaw
+pub mod SoundLaw

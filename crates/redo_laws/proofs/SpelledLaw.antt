@@ -326,17 +326,17 @@ effect_spelled sh R _ q a b k x f = tt
 
 -- the images and the standing records of a list
 
-record Spelled (R : List Record) : Type 0 where
-  images : ImagesSpelled R
-  steps : Every StepSpelled (standing R)
+pub record Spelled (R : List Record) : Type 0 where
+  pub images : ImagesSpelled R
+  pub steps : Every StepSpelled (standing R)
 
-before : (sh : Shape) (R : List Record) → is_shape sh ≡ true → suc (length R) < 2 ^ 64 → AreAllowed sh R → Spelled R → Before sh R
+pub before : (sh : Shape) (R : List Record) → is_shape sh ≡ true → suc (length R) < 2 ^ 64 → AreAllowed sh R → Spelled R → Before sh R
 before sh R h l a s = record { limits = limits sh h; allowed = a; whole = whole sh R a; room = (small sh R a).room; images = s.images; steps = s.steps; short = l }
 
 effect_of_allowed : (sh : Shape) (R : List Record) (r : Record) → Before sh R → AreAllowed sh (r ∷ R) → EffectSpelled (effect_of r)
 effect_of_allowed sh R r q h = let a = h.1.kind in effect_spelled sh R r q a (basics sh R r a) (facts_of sh R r q a) (shape_of sh R r (segments sh R h.0) a) (records_fit_blocks sh R r h)
 
-spelled : (sh : Shape) (R : List Record) → is_shape sh ≡ true → suc (length R) < 2 ^ 64 → AreAllowed sh R → Spelled R
+pub spelled : (sh : Shape) (R : List Record) → is_shape sh ≡ true → suc (length R) < 2 ^ 64 → AreAllowed sh R → Spelled R
 spelled sh [] h l a = record { images = λ b k. new_spelled; steps = tt }
 spelled sh (r ∷ R) h l a =
     let less : suc (length R) < 2 ^ 64 = omega (arith, l) in

@@ -3,6 +3,7 @@ use Rattle.std.proofs.Common.{◌≡◌, ℕ, zero, suc, ◌+◌, ◌<◌, ◌�
 use Rattle.std.proofs.lemmas.Bool.{true≢false, cases_Bool, not-true, ltb-false, leb-true, leb-false}
 use Rattle.std.specs.List.{AllByRecursion}
 use Rattle.seg_base.specs.declared.shape.Shape.{Shape}
+use Rattle.seg_base.specs.declared.slot.Kind.TheVariants.{Head}
 use Rattle.seg_base.specs.declared.slot.Slot.{Slot}
 use Rattle.seg_base.specs.declared.slot.UndoAddr.{UndoAddr}
 use Rattle.seg_base.specs.declared.slot.Writer.{Writer}
@@ -160,7 +161,7 @@ target_link sh R o b q h =
 -- parts
 
 abbrev pub LinkRow : RowPart → Type 0
-LinkRow p = IsLink p.new.link × (p.new.row < 2 ^ 64)
+LinkRow p = IsLink p.new.link × (p.new.row < 2 ^ 64) × (p.new.kind ≡ Head → p.new.bytes ≡ [])
 
 entry_spelled : (o : Option ℕ) → ((e : ℕ) → o ≡ Some e → e < 8) → IsEntry o
 entry_spelled None h = tt

@@ -13,3 +13,4 @@ pub mod Fit
 pub mod Scan
 pub mod Apart
 pub mod Spelled
+pub mod Sound

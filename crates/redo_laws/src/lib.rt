@@ -11,7 +11,7 @@ pub use first::{
     records_name_tables,
 };
 pub use rows::{
-    blocks_have_room, blocks_stay, heads_name_bodies, past_is_lost, records_are_spelled,
-    records_fit_blocks, rows_are_spread, scans_are_whole, slots_are_at_home, slots_are_chains,
-    undo_is_enough, view_of_no_transaction_is_the_table, views_stay,
+    blocks_are_sound, blocks_have_room, blocks_stay, heads_name_bodies, past_is_lost,
+    records_are_spelled, records_fit_blocks, rows_are_spread, scans_are_whole, slots_are_at_home,
+    slots_are_chains, undo_is_enough, view_of_no_transaction_is_the_table, views_stay,
 };

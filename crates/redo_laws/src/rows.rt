@@ -6,6 +6,7 @@ ghost use Rattle.redo_laws.specs.Homes.{HeadsNameBodies, SlotsAreAtHome};
 ghost use Rattle.redo_laws.specs.Past.{PastIsLost};
 ghost use Rattle.redo_laws.specs.Room.{BlocksHaveRoom};
 ghost use Rattle.redo_laws.specs.Scan.{ScansAreWhole};
+ghost use Rattle.redo_laws.specs.Sound.{BlocksAreSound};
 ghost use Rattle.redo_laws.specs.Spelled.{RecordsAreSpelled};
 ghost use Rattle.redo_laws.specs.Stays.{BlocksStay, ViewsStay};
 ghost use Rattle.redo_laws.specs.Views.{RowsAreSpread, ViewOfNone};
@@ -82,4 +83,10 @@ pub fn scans_are_whole()
 /// In a store within its limits, after fewer than 2 to the 64th records, each allowed record has a spelling.
 pub fn records_are_spelled()
     ensures { RecordsAreSpelled }
+{}
+
+/// What stands in the slots and list entries of a block can be put on its page: numbers are in range, an Empty slot and a
+/// head have no row, the room is at least the row's length, and just that under a commit number.
+pub fn blocks_are_sound()
+    ensures { BlocksAreSound }
 {}

@@ -44,3 +44,4 @@ pub mod SpelledCleans
 pub mod SpelledKinds
 pub mod SpelledLaw
 pub mod SoundLaw
+pub mod ReadsLaw

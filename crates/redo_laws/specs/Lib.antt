@@ -14,3 +14,4 @@ pub mod Scan
 pub mod Apart
 pub mod Spelled
 pub mod Sound
+pub mod Reads

@@ -5,6 +5,7 @@ ghost use Rattle.redo_laws.specs.Fit.{RecordsFitBlocks};
 ghost use Rattle.redo_laws.specs.Homes.{HeadsNameBodies, SlotsAreAtHome};
 ghost use Rattle.redo_laws.specs.Past.{PastIsLost};
 ghost use Rattle.redo_laws.specs.Room.{BlocksHaveRoom};
+ghost use Rattle.redo_laws.specs.Reads.{UndoIsRead};
 ghost use Rattle.redo_laws.specs.Scan.{ScansAreWhole};
 ghost use Rattle.redo_laws.specs.Sound.{BlocksAreSound};
 ghost use Rattle.redo_laws.specs.Spelled.{RecordsAreSpelled};
@@ -89,4 +90,10 @@ pub fn records_are_spelled()
 /// head have no row, the room is at least the row's length, and just that under a commit number.
 pub fn blocks_are_sound()
     ensures { BlocksAreSound }
+{}
+
+/// An undo address is reused just where its block's present sequence is greater. Else the block holds, at the address's
+/// place, the part that the address's record stated: the image below the one that names it.
+pub fn undo_is_read()
+    ensures { UndoIsRead }
 {}

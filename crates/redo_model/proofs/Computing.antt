@@ -12,4 +12,4 @@ pub moved_right : MovedRight
 moved_right = record { updated_own = refl; updated_others = refl; restored = refl; filled_rows = refl; filled_before = refl; free_filled = refl; returned_row = refl; free_returned = refl; takes = refl; moved_row = refl; moved_from = refl; moved_table = refl; moved_seen = refl; moved_seen_before = refl; moved_not_twice = refl; moved_commits = refl; lowered_extents = refl; lowered_high = refl; lowerings = refl; vacant = refl; not_vacant = refl }
 
 pub reused_right : ReusedRight
-reused_right = record { used_before = refl; used_by_move = refl; used_by_both = refl; next = refl; used = refl; still_used = refl; sequence = refl; holder = refl; other_holder = refl; none_next = refl; not_reused_before = refl; reused_now = refl; new_not_reused = refl; gone_first = refl; gone = refl; own = refl; others = refl; needed = refl; needed_by_past = refl; too_old = refl; not_needed = refl }
+reused_right = record { used_before = refl; used_by_move = refl; used_by_both = refl; next = refl; used = refl; still_used = refl; held_before = refl; held = refl; sequence = refl; holder = refl; other_holder = refl; none_next = refl; not_reused_before = refl; reused_now = refl; new_not_reused = refl; gone_first = refl; gone = refl; own = refl; others = refl; needed = refl; needed_by_past = refl; too_old = refl; not_needed = refl }

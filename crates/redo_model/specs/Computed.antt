@@ -13,7 +13,7 @@ use Rattle.redo_model.specs.Blocks.{free_of, class_of_block, takes_row, is_vacan
 use Rattle.redo_model.specs.Versions.{makers, counts, images, row_at, rows_at}
 use Rattle.redo_model.specs.Segments.{extents_of, data_blocks, low_mark, high_mark, is_formatted, is_free_extent, under_high, first_unformatted}
 use Rattle.redo_model.specs.Kept.{kept_class}
-use Rattle.redo_model.specs.Undo.{undo_used, undo_sequence, is_reused, undo_holder, next_undo, needed_on}
+use Rattle.redo_model.specs.Undo.{HeldPart, undo_held, undo_used, undo_sequence, is_reused, undo_holder, next_undo, needed_on}
 use Rattle.redo_model.specs.Worked.{small, letters, hello, row_by, head_by, body_by, nine, three, migrated, backed, migrated_for_good, updated, restored_body, filled, returned, left_behind, moved_to, moved, undo_at, again_at, row_5_gone, row_3_gone, half_deleted, reused, lowered}
 
 -- a row is inserted and committed
@@ -102,6 +102,8 @@ pub record ReusedRight : Type 0 where
   pub next : next_undo small half_deleted ≡ Some 37
   pub used : undo_used reused 37 ≡ 1854
   pub still_used : undo_used reused 38 ≡ undo_used half_deleted 38
+  pub held_before : map (λ (h : HeldPart). h.part.dba) (undo_held half_deleted 38) ≡ 44 ∷ 43 ∷ 44 ∷ []
+  pub held : map (λ (h : HeldPart). h.part.dba) (undo_held reused 37) ≡ 43 ∷ []
   pub sequence : undo_sequence reused 37 ≡ 2
   pub holder : undo_holder reused 37 ≡ Some 6
   pub other_holder : undo_holder reused 38 ≡ Some 6

@@ -1,17 +1,18 @@
 -- Undo blocks: what they hold, whose it is, which one is used next, and which undo a scan needs. Oracle Database Concepts,
 -- "Undo Segments": undo is kept in a ring, and that of ended transactions is overwritten. The ring of blocks, the address
 -- of a part and when a block may be reused are this engine's own.
-use Rattle.std.specs.Prelude.{◌≡◌, ℕ, suc, ◌+◌, ◌-◌, ◌<◌, min, Bool, true, false, cond, not, ◌&&◌, ◌||◌, eqb, ltb, List, [], ◌∷◌, ◌++◌, length, map, Option, Some, None, filter, find, Contains, MatchOption}
+use Rattle.std.specs.Prelude.{◌≡◌, ℕ, zero, suc, ◌+◌, ◌-◌, ◌<◌, min, Bool, true, false, cond, not, ◌&&◌, ◌||◌, eqb, ltb, List, [], ◌∷◌, ◌++◌, length, map, Option, Some, None, filter, find, Contains, MatchOption}
 use Rattle.std.specs.List.{sum_by}
 use Rattle.seg_base.specs.declared.shape.Shape.{Shape}
 use Rattle.seg_base.specs.declared.slot.Writer.{Writer}
 use Rattle.seg_base.specs.declared.slot.Writer.TheVariants.{By, At}
 use Rattle.seg_base.specs.declared.slot.UndoAddr.{UndoAddr}
 use Rattle.seg_base.specs.declared.slot.Slot.{Slot}
+use Rattle.seg_base.specs.declared.undo.UndoPlace.{UndoPlace}
 use Rattle.redo_record.specs.declared.record.Record.{Record}
 use Rattle.redo_record.specs.declared.record.Record.TheVariants.{Reuse}
 use Rattle.redo_record.specs.declared.part.RowPart.{RowPart}
-use Rattle.redo_model.specs.Effects.{Effect, Adds, effect_of}
+use Rattle.redo_model.specs.Effects.{Step, Effect, Adds, effect_of}
 use Rattle.redo_model.specs.Transactions.{is_active}
 use Rattle.redo_model.specs.Segments.{blocks_from}
 use Rattle.redo_model.specs.Slots.{image, slot_count}
@@ -50,6 +51,37 @@ undo_parts (r ∷ R) u = undone_after (effect_of r) u (emptied_by r u (undo_part
 -- the bytes that they use
 abbrev pub undo_used : List Record → ℕ → ℕ
 undo_used R u = sum_by (λ (p : Undone). p.size) (undo_parts R u)
+
+-- a part as its block holds it: who wrote it, where the undo of the transaction's record before begins, how many parts the
+-- record has, and the part: of which slot it is, and the slot's old image
+pub record HeldPart : Type 0 where
+  pub by : Writer
+  pub previous : Option UndoPlace
+  pub count : ℕ
+  pub part : RowPart
+
+abbrev pub held_by : Step → List RowPart → List HeldPart
+held_by st [] = []
+held_by st (p ∷ ps) = record { by = st.by; previous = st.previous; count = length st.parts; part = p } ∷ held_by st ps
+
+abbrev pub held_after : Effect → ℕ → List HeldPart → List HeldPart
+held_after (Adds st) u hs = cond (eqb st.undo.block u) (hs ++ held_by st st.parts) hs
+held_after _ u hs = hs
+
+abbrev pub kept_by : Record → ℕ → List HeldPart → List HeldPart
+kept_by (Reuse q) u hs = cond (eqb q.block u) [] hs
+kept_by _ u hs = hs
+
+-- what undo block u holds: the parts since its last Reuse, in order of place
+abbrev pub undo_held : List Record → ℕ → List HeldPart
+undo_held [] u = []
+undo_held (r ∷ R) u = held_after (effect_of r) u (kept_by r u (undo_held R u))
+
+-- the part at place n
+abbrev pub held_at : List HeldPart → ℕ → Option HeldPart
+held_at [] n = None
+held_at (h ∷ hs) zero = Some h
+held_at (h ∷ hs) (suc n) = held_at hs n
 
 abbrev pub current_after : Record → Option ℕ → Option ℕ
 current_after (Reuse q) was = Some q.block

@@ -1,0 +1,32 @@
+-- What the undo address of an image leads to. An address is reused just where its block's present sequence is greater;
+-- else the block holds, at the address's place, the part with the image below. So going down from a slot through undo blocks
+-- meets its images one by one, up to an address that is reused.
+use Rattle.std.specs.Prelude.{◌≡◌, ℕ, ltb, List, map, Some}
+use Rattle.seg_base.specs.declared.shape.Shape.{Shape}
+use Rattle.seg_base.specs.declared.slot.UndoAddr.{UndoAddr}
+use Rattle.redo_record.specs.declared.record.Record.{Record}
+use Rattle.redo_model.specs.Versions.{Made, makers}
+use Rattle.redo_model.specs.Undo.{part_size, undo_parts, undo_sequence, is_reused, HeldPart, undo_held, held_at}
+use Rattle.redo_model.specs.Lawful.{AreAllowed}
+use Rattle.redo_laws.specs.Chain.{EachMade}
+
+-- the block of the address holds the image that a record replaced in slot k of block b, and knows who replaced it
+pub record LeadsTo (R : List Record) (b k : ℕ) (m : Made) : Type 0 where
+  pub held : HeldPart
+  pub there : held_at (undo_held R m.part.block) m.part.nth ≡ Some held
+  pub block : held.part.dba ≡ b
+  pub slot : held.part.slot ≡ k
+  pub old : held.part.old ≡ m.old
+  pub by : held.by ≡ m.by
+
+-- the part of m is of the present use of its block
+abbrev pub IsPresent : List Record → UndoAddr → Type 0
+IsPresent R a = a.seq ≡ undo_sequence R a.block
+
+pub record UndoReads (R : List Record) : Type 0 where
+  pub reused : (a : UndoAddr) → is_reused R a ≡ ltb a.seq (undo_sequence R a.block)
+  pub sizes : (u : ℕ) → undo_parts R u ≡ map (λ (h : HeldPart). record { by = h.by; size = part_size h.part }) (undo_held R u)
+  pub leads : (b k : ℕ) → EachMade (λ m. IsPresent R m.part → LeadsTo R b k m) (makers R b k)
+
+abbrev pub UndoIsRead : Type 0
+UndoIsRead = (sh : Shape) (R : List Record) → AreAllowed sh R → UndoReads R

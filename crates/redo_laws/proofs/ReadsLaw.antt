@@ -12,10 +12,14 @@ use Rattle.redo_model.specs.Versions.{Made, makers}
 use Rattle.redo_model.specs.Undo.{Undone, part_size, undone, undone_after, emptied_by, undo_parts, undo_sequence, is_reused, HeldPart, held_by, held_after, kept_by, undo_held, held_at}
 use Rattle.redo_model.specs.Lawful.{AreAllowed}
 use Rattle.redo_laws.specs.Chain.{EachMade, IsStated, IsStatedIn}
-use Rattle.redo_laws.specs.Reads.{LeadsTo, IsPresent, UndoIsRead}
+use Rattle.redo_laws.specs.Reads.{StandAt, IsThere, LeadsTo, IsPresent, UndoIsRead}
 use Rattle.redo_laws.proofs.Every.{Every, every-map, every-filter}
 use Rattle.redo_laws.proofs.Basics.{Basics, EffectBasics, basics}
 use Rattle.redo_laws.proofs.ChainLaw.{slots_are_chains}
+use Rattle.redo_laws.proofs.Economy.{InUse}
+use Rattle.redo_laws.proofs.Whole.{whole}
+use Rattle.redo_laws.specs.Economy.{EachStep}
+use Rattle.redo_model.specs.Transactions.{is_active}
 
 -- sizes
 
@@ -73,11 +77,6 @@ reused sh (_ ∷ R) a h = reused sh R a h.0
 
 abbrev part_of : Step → RowPart → HeldPart
 part_of st p = record { by = st.by; previous = st.previous; count = length st.parts; part = p }
-
--- the parts stand one after the other from place n on
-abbrev StandAt : List HeldPart → Step → ℕ → List RowPart → Type 0
-StandAt hs st n [] = Unit {0}
-StandAt hs st n (p ∷ ps) = (held_at hs n ≡ Some (part_of st p)) × StandAt hs st (suc n) ps
 
 at_front : (hs ks : List HeldPart) (n : ℕ) (h : HeldPart) → held_at hs n ≡ Some h → held_at (hs ++ ks) n ≡ Some h
 at_front [] ks n h e = absurd (let x : ◌≡◌ {A = Option HeldPart} None (Some h) = e in cc)
@@ -195,9 +194,14 @@ each_leads : (R : List Record) (b k : ℕ) (ms : List Made) → Every (StepHeld 
 each_leads R b k [] h x = tt
 each_leads R b k (m ∷ ms) h x = ((λ p. stated_leads R (standing R) b k m h x.0 p), each_leads R b k ms h x.1)
 
+each_there : (R : List Record) (ss : List Step) → Every (StepHeld R) ss → Every (InUse (is_active R) (undo_sequence R) (undo_parts R)) ss → EachStep (IsThere R) ss
+each_there R [] h x = tt
+each_there R (st ∷ ss) h x = ((λ u e on. let p = (x.0 u e on).0 in (p, h.0.parts p)), each_there R ss h.1 x.1)
+
 pub undo_is_read : UndoIsRead
 undo_is_read sh R h = record {
   reused = λ a. reused sh R a h;
   sizes = λ u. sizes R u;
   leads = λ b k. each_leads R b k (makers R b k) (all_held sh R h) (slots_are_chains sh R b k h).stated;
+  there = each_there R (standing R) (all_held sh R h) (whole sh R h).undo.in_use;
 }

@@ -1,14 +1,20 @@
 -- What the undo address of an image leads to. An address is reused just where its block's present sequence is greater;
 -- else the block holds, at the address's place, the part with the image below. So going down from a slot through undo blocks
--- meets its images one by one, up to an address that is reused.
-use Rattle.std.specs.Prelude.{◌≡◌, ℕ, ltb, List, map, Some}
+-- meets its images one by one, up to an address that is reused, and taking back finds what it needs.
+use Rattle.std.specs.Prelude.{◌≡◌, ℕ, suc, true, ltb, List, [], ◌∷◌, length, map, Some}
 use Rattle.seg_base.specs.declared.shape.Shape.{Shape}
 use Rattle.seg_base.specs.declared.slot.UndoAddr.{UndoAddr}
 use Rattle.redo_record.specs.declared.record.Record.{Record}
+use Rattle.redo_record.specs.declared.part.RowPart.{RowPart}
+use Rattle.redo_model.specs.Effects.{Step}
+use Rattle.redo_model.specs.Transactions.{is_active}
+use Rattle.redo_model.specs.Steps.{standing}
 use Rattle.redo_model.specs.Versions.{Made, makers}
 use Rattle.redo_model.specs.Undo.{part_size, undo_parts, undo_sequence, is_reused, HeldPart, undo_held, held_at}
 use Rattle.redo_model.specs.Lawful.{AreAllowed}
 use Rattle.redo_laws.specs.Chain.{EachMade}
+use Rattle.redo_laws.specs.Economy.{EachStep}
+use Rattle.seg_base.specs.declared.slot.Writer.TheVariants.{By}
 
 -- the block of the address holds the image that a record replaced in slot k of block b, and knows who replaced it
 pub record LeadsTo (R : List Record) (b k : ℕ) (m : Made) : Type 0 where
@@ -23,10 +29,20 @@ pub record LeadsTo (R : List Record) (b k : ℕ) (m : Made) : Type 0 where
 abbrev pub IsPresent : List Record → UndoAddr → Type 0
 IsPresent R a = a.seq ≡ undo_sequence R a.block
 
+-- these parts of a record stand one after the other from place n on
+abbrev pub StandAt : List HeldPart → Step → ℕ → List RowPart → Type 0
+StandAt hs st n [] = Unit {0}
+StandAt hs st n (p ∷ ps) = (held_at hs n ≡ Some (record { by = st.by; previous = st.previous; count = length st.parts; part = p })) × StandAt hs st (suc n) ps
+
+-- the block of a record of an active transaction is in the use of that time, and holds its parts
+abbrev pub IsThere : List Record → Step → Type 0
+IsThere R st = (u : ℕ) → st.by ≡ By u → is_active R u ≡ true → IsPresent R st.undo × StandAt (undo_held R st.undo.block) st st.undo.nth st.parts
+
 pub record UndoReads (R : List Record) : Type 0 where
   pub reused : (a : UndoAddr) → is_reused R a ≡ ltb a.seq (undo_sequence R a.block)
   pub sizes : (u : ℕ) → undo_parts R u ≡ map (λ (h : HeldPart). record { by = h.by; size = part_size h.part }) (undo_held R u)
   pub leads : (b k : ℕ) → EachMade (λ m. IsPresent R m.part → LeadsTo R b k m) (makers R b k)
+  pub there : EachStep (IsThere R) (standing R)
 
 abbrev pub UndoIsRead : Type 0
 UndoIsRead = (sh : Shape) (R : List Record) → AreAllowed sh R → UndoReads R

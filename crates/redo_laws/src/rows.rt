@@ -93,7 +93,8 @@ pub fn blocks_are_sound()
 {}
 
 /// An undo address is reused just where its block's present sequence is greater. Else the block holds, at the address's
-/// place, the part that the address's record stated: the image below the one that names it.
+/// place, the part that the address's record stated: the image below the one that names it. The parts of an active
+/// transaction's records are all there.
 pub fn undo_is_read()
     ensures { UndoIsRead }
 {}

@@ -45,3 +45,4 @@ pub mod SpelledKinds
 pub mod SpelledLaw
 pub mod SoundLaw
 pub mod ReadsLaw
+pub mod WritersLaw

@@ -15,3 +15,4 @@ pub mod Apart
 pub mod Spelled
 pub mod Sound
 pub mod Reads
+pub mod Writers

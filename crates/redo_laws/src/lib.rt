@@ -14,5 +14,5 @@ pub use rows::{
     blocks_are_sound, blocks_have_room, blocks_stay, heads_name_bodies, past_is_lost,
     records_are_spelled, records_fit_blocks, rows_are_spread, scans_are_whole, slots_are_at_home,
     slots_are_chains, undo_is_enough, undo_is_read, view_of_no_transaction_is_the_table,
-    views_stay,
+    views_stay, writers_are_told,
 };

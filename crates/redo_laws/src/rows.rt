@@ -10,6 +10,7 @@ ghost use Rattle.redo_laws.specs.Scan.{ScansAreWhole};
 ghost use Rattle.redo_laws.specs.Sound.{BlocksAreSound};
 ghost use Rattle.redo_laws.specs.Spelled.{RecordsAreSpelled};
 ghost use Rattle.redo_laws.specs.Stays.{BlocksStay, ViewsStay};
+ghost use Rattle.redo_laws.specs.Writers.{WritersAreTold};
 ghost use Rattle.redo_laws.specs.Views.{RowsAreSpread, ViewOfNone};
 
 /// At all commits, the view of an active transaction or of none is the union of what the formatted blocks of the table
@@ -97,4 +98,10 @@ pub fn blocks_are_sound()
 /// transaction's records are all there.
 pub fn undo_is_read()
     ensures { UndoIsRead }
+{}
+
+/// A commit number as an image's writer says by itself whether the image counts; of a transaction its state says it: active,
+/// committed, or forgotten, then from the control number on. None that was rolled back is a writer of an image.
+pub fn writers_are_told()
+    ensures { WritersAreTold }
 {}

@@ -12,12 +12,8 @@ use Rattle.assm.specs.declared.entry.HistoryItem.TheVariants as item
 use Rattle.assm.specs.Redo.{prefix}
 use Rattle.assm.specs.Lawful.{IsLawful}
 use Rattle.assm.specs.Means.{Meets, MeetsEnd}
-use Rattle.assm.specs.Legal.{under_way, last_of, entry_count, last_moment, StartStands, EntryStands, MeetsPlace, Stands, IsTold, IsLegal}
-use Rattle.assm.specs.Runs.{start_at, entry_at, Steps, Stops, Stopped}
-
--- some newer records stand before the others
-abbrev Grown : List Record → List Record → Type 0
-Grown R R' = (added : List Record) × (R' ≡ added ++ R)
+use Rattle.assm.specs.Legal.{under_way, last_of, entry_count, StartStands, EntryStands, MeetsPlace, Stands, IsTold, IsLegal}
+use Rattle.assm.specs.Runs.{start_at, entry_at, Grows, Steps}
 
 less_one : (l n : ℕ) → n ≤ l → suc l - n ≡ suc (l - n)
 less_one l n h = omega arith
@@ -25,13 +21,13 @@ less_one l n h = omega arith
 none_less : (l : ℕ) → l - l ≡ 0
 none_less l = omega arith
 
-prefix_all : (R : List Record) → prefix (length R) R ≡ R
+pub prefix_all : (R : List Record) → prefix (length R) R ≡ R
 prefix_all R = ap (λ n. drop n R) (none_less (length R))
 
 prefix_cons : (n : ℕ) (r : Record) (R : List Record) → n ≤ length R → prefix n (r ∷ R) ≡ prefix n R
 prefix_cons n r R h = ap (λ k. drop k (r ∷ R)) (less_one (length R) n h)
 
-prefix_grown : (n : ℕ) (added R : List Record) → n ≤ length R → prefix n (added ++ R) ≡ prefix n R
+pub prefix_grown : (n : ℕ) (added R : List Record) → n ≤ length R → prefix n (added ++ R) ≡ prefix n R
 prefix_grown n [] R h = refl
 prefix_grown n (r ∷ added) R h = prefix_cons n r (added ++ R) (omega (arith, length-append added R)) ∙ prefix_grown n added R h
 
@@ -40,24 +36,27 @@ prefix_within : (R0 R : List Record) → prefix (length R0) R ≡ R0 → length 
 prefix_within R0 R h = omega (arith, ap length h, length-drop (length R - length R0) R)
 
 -- ---- what a statement did has added records
-grown_none : (B E : List Record) → E ≡ B → Grown B E
-grown_none B E h = ([], h)
+grown_none : (B E : List Record) → E ≡ B → Grows B E
+grown_none B E h = record { added = []; parts = h }
 
-grown_by : (s : Statement) (o : Outcome) (B E : List Record) → Meets s o B E → Grown B E
-grown_by (asked.Table name pctfree) (told.Table other) B E h = (made.Table _ name pctfree ∷ [], h.1.adds)
+by : (B E added : List Record) → E ≡ added ++ B → Grows B E
+by B E added h = record { added = added; parts = h }
+
+grown_by : (s : Statement) (o : Outcome) (B E : List Record) → Meets s o B E → Grows B E
+grown_by (asked.Table name pctfree) (told.Table other) B E h = by B E (made.Table _ name pctfree ∷ []) (h.1.adds)
 grown_by (asked.Insert name label text) (told.Inserted row) B E h =
     elim h.starts [
-      | inl s ↦ (made.Insert h.txn h.obj row text ∷ [], h.adds ∙ ap (λ z. made.Insert h.txn h.obj row text ∷ z) s.1)
-      | inr s ↦ (made.Insert h.txn h.obj row text ∷ made.Begin h.txn ∷ [], h.adds ∙ ap (λ z. made.Insert h.txn h.obj row text ∷ z) s.2)
+      | inl s ↦ by B E (made.Insert h.txn h.obj row text ∷ []) (h.adds ∙ ap (λ z. made.Insert h.txn h.obj row text ∷ z) s.1)
+      | inr s ↦ by B E (made.Insert h.txn h.obj row text ∷ made.Begin h.txn ∷ []) (h.adds ∙ ap (λ z. made.Insert h.txn h.obj row text ∷ z) s.2)
     ]
-grown_by asked.Commit (told.Committed number) B E h = (made.Commit h.txn number ∷ [], h.adds)
+grown_by asked.Commit (told.Committed number) B E h = by B E (made.Commit h.txn number ∷ []) (h.adds)
 grown_by asked.Commit told.NothingToCommit B E h = grown_none B E h.1
 grown_by (asked.Scan name) (told.Scan other at rows) B E h = grown_none B E h.1.same
 grown_by s (told.Refused refusal) B E h = grown_none B E h.1
 grown_by s o B E h = absurd h
 
-grown_by_end : (o : Outcome) (B E : List Record) → MeetsEnd o B E → Grown B E
-grown_by_end told.RolledBack B E h = (made.Ended h.txn ∷ [], h.adds)
+grown_by_end : (o : Outcome) (B E : List Record) → MeetsEnd o B E → Grows B E
+grown_by_end told.RolledBack B E h = by B E (made.Ended h.txn ∷ []) (h.adds)
 grown_by_end o B E h = absurd h
 
 -- ---- what was told goes on to stand when records are added
@@ -72,7 +71,6 @@ entry_on script first R added entry T h =
       grows = h.grows;
       order = h.order;
       within = omega (arith, h.within, length-append added R);
-      moment = h.moment;
       meets = subst P (sym b) (subst Q (sym e) h.meets);
     }
 
@@ -85,35 +83,35 @@ told_on script first R added [] h = tt
 told_on script first R added (i ∷ T) h = (stands_on script first R added i T h.0, told_on script first R added T h.1)
 
 -- ---- the state of a run between two statements
-pub record Between (script : List Statement) (R0 : List Record) (i clock : ℕ) (R : List Record) (T : List HistoryItem) : Type 0 where
+pub record Between (script : List Statement) (R0 : List Record) (i : ℕ) (R : List Record) (T : List HistoryItem) : Type 0 where
   pub legal : IsLegal script R0 R T
   pub idle : under_way (last_of 1 T) ≡ None
   pub count : entry_count 1 T ≡ i
-  pub time : last_moment T ≤ clock
 
-pub at_first : (script : List Statement) (R0 : List Record) (clock : ℕ) → IsLawful R0 → Between script R0 0 clock R0 []
-at_first script R0 clock lawful = record {
+pub at_first : (script : List Statement) (R0 : List Record) → IsLawful R0 → Between script R0 0 R0 []
+at_first script R0 lawful = record {
   legal = record { from = prefix_all R0; lawful = lawful; told = tt; whole = refl };
   idle = refl;
   count = refl;
-  time = omega arith;
 }
 
-start_stands : (script : List Statement) (R0 : List Record) (i clock : ℕ) (R : List Record) (T : List HistoryItem) → Between script R0 i clock R T → StartStands (length R0) (start_at R) T
-start_stands script R0 i clock R T b = record { idle = b.idle; begins = sym b.legal.whole }
+start_stands : (script : List Statement) (R0 : List Record) (i : ℕ) (R : List Record) (T : List HistoryItem) → Between script R0 i R T → StartStands (length R0) (start_at R) T
+start_stands script R0 i R T b = record { idle = b.idle; begins = sym b.legal.whole }
 
 -- a start alone
-started_legal : (script : List Statement) (R0 : List Record) (i clock : ℕ) (R : List Record) (T : List HistoryItem) → Between script R0 i clock R T → IsLegal script R0 R (item.Start (start_at R) ∷ T)
-started_legal script R0 i clock R T b = record {
+pub started_legal : (script : List Statement) (R0 : List Record) (i : ℕ) (R : List Record) (T : List HistoryItem) → Between script R0 i R T → IsLegal script R0 R (item.Start (start_at R) ∷ T)
+started_legal script R0 i R T b = record {
   from = b.legal.from;
   lawful = b.legal.lawful;
-  told = (start_stands script R0 i clock R T b, b.legal.told);
+  told = (start_stands script R0 i R T b, b.legal.told);
   whole = b.legal.whole;
 }
 
 -- a start and its entry
-step_legal : (script : List Statement) (R0 : List Record) (i clock : ℕ) (R R' : List Record) (T : List HistoryItem) (ordinal : Option ℕ) (outcome : Outcome) → Between script R0 i clock R T → IsLawful R' → Grown R R' → MeetsPlace script ordinal outcome i R R' → IsLegal script R0 R' (item.Entry (entry_at ordinal clock R R' outcome) ∷ item.Start (start_at R) ∷ T)
-step_legal script R0 i clock R R' T ordinal outcome b lawful (added, grown) meets =
+step_legal : (script : List Statement) (R0 : List Record) (i clock : ℕ) (R R' : List Record) (T : List HistoryItem) (ordinal : Option ℕ) (outcome : Outcome) → Between script R0 i R T → IsLawful R' → Grows R R' → MeetsPlace script ordinal outcome i R R' → IsLegal script R0 R' (item.Entry (entry_at ordinal clock R R' outcome) ∷ item.Start (start_at R) ∷ T)
+step_legal script R0 i clock R R' T ordinal outcome b lawful g meets =
+    let added = g.added in
+    let grown = g.parts in
     let longer : length R ≤ length R' = omega (arith, ap length grown, length-append added R) in
     let at_start : prefix (length R) R' ≡ R = ap (prefix (length R)) grown ∙ prefix_grown (length R) added R (omega arith) ∙ prefix_all R in
     let within : length R0 ≤ length R = prefix_within R0 R b.legal.from in
@@ -130,47 +128,27 @@ step_legal script R0 i clock R R' T ordinal outcome b lawful (added, grown) meet
           grows = longer;
           order = omega (arith, b.legal.whole, longer);
           within = omega arith;
-          moment = b.time;
           meets = subst P (sym at_start) (subst Q (sym (prefix_all R')) (subst N (sym b.count) meets));
         },
-        (start_stands script R0 i clock R T b, subst Z (sym grown) (told_on script (length R0) R added T b.legal.told)),
+        (start_stands script R0 i R T b, subst Z (sym grown) (told_on script (length R0) R added T b.legal.told)),
       );
       whole = refl;
     }
 
-step_between : (script : List Statement) (R0 : List Record) (i clock : ℕ) (R R' : List Record) (T : List HistoryItem) (ordinal : Option ℕ) (outcome : Outcome) → Between script R0 i clock R T → IsLawful R' → Grown R R' → MeetsPlace script ordinal outcome i R R' → Between script R0 (i + 1) clock R' (item.Entry (entry_at ordinal clock R R' outcome) ∷ item.Start (start_at R) ∷ T)
+step_between : (script : List Statement) (R0 : List Record) (i clock : ℕ) (R R' : List Record) (T : List HistoryItem) (ordinal : Option ℕ) (outcome : Outcome) → Between script R0 i R T → IsLawful R' → Grows R R' → MeetsPlace script ordinal outcome i R R' → Between script R0 (i + 1) R' (item.Entry (entry_at ordinal clock R R' outcome) ∷ item.Start (start_at R) ∷ T)
 step_between script R0 i clock R R' T ordinal outcome b lawful grown meets = record {
   legal = step_legal script R0 i clock R R' T ordinal outcome b lawful grown meets;
   idle = refl;
   count = omega (arith, b.count);
-  time = omega arith;
 }
 
 -- ---- a statement's step
-pub statement_between : (script : List Statement) (R0 : List Record) (i clock n : ℕ) (s : Statement) (R R' : List Record) (T T' : List HistoryItem) → Between script R0 i clock R T → slice_get script i ≡ Some s → n ≡ i + 1 → Steps (Some n) (λ o. Meets s o R R') clock R R' T T' → Between script R0 (i + 1) clock R' T'
+pub statement_between : (script : List Statement) (R0 : List Record) (i clock n : ℕ) (s : Statement) (R R' : List Record) (T T' : List HistoryItem) → Between script R0 i R T → slice_get script i ≡ Some s → n ≡ i + 1 → Steps (Some n) (λ o. Meets s o R R') clock R R' T T' → Between script R0 (i + 1) R' T'
 statement_between script R0 i clock n s R R' T T' b got number h =
-    let P : List HistoryItem → Type 0 = λ z. Between script R0 (i + 1) clock R' z in
+    let P : List HistoryItem → Type 0 = λ z. Between script R0 (i + 1) R' z in
     subst P (sym h.history) (step_between script R0 i clock R R' T (Some n) h.outcome b h.lawful (grown_by s h.outcome R R' h.means) (number, (s, got, h.means)))
 
-pub end_between : (script : List Statement) (R0 : List Record) (clock : ℕ) (R R' : List Record) (T T' : List HistoryItem) → Between script R0 (length script) clock R T → Steps None (λ o. MeetsEnd o R R') clock R R' T T' → Between script R0 (length script + 1) clock R' T'
+pub end_between : (script : List Statement) (R0 : List Record) (clock : ℕ) (R R' : List Record) (T T' : List HistoryItem) → Between script R0 (length script) R T → Steps None (λ o. MeetsEnd o R R') clock R R' T T' → Between script R0 (length script + 1) R' T'
 end_between script R0 clock R R' T T' b h =
-    let P : List HistoryItem → Type 0 = λ z. Between script R0 (length script + 1) clock R' z in
+    let P : List HistoryItem → Type 0 = λ z. Between script R0 (length script + 1) R' z in
     subst P (sym h.history) (step_between script R0 (length script) clock R R' T None h.outcome b h.lawful (grown_by_end h.outcome R R' h.means) (refl, h.means))
-
--- ---- a step that stopped
-stopped : (script : List Statement) (R0 : List Record) (i clock : ℕ) (R : List Record) (T : List HistoryItem) → Between script R0 i clock R T → Stopped script R0 clock T
-stopped script R0 i clock R T b = record { records = R; legal = b.legal; time = b.time }
-
-stops_by : (script : List Statement) (R0 : List Record) (i clock : ℕ) (R : List Record) (T T' : List HistoryItem) (b c : Option (List ℕ)) (Step : Type 0) → Between script R0 i clock R T → (Step → Stopped script R0 clock T') → Stops b c R T T' Step → Stopped script R0 clock T'
-stops_by script R0 i clock R T T' b c Step h step (inl k) = subst (Stopped script R0 clock) (sym k.0) (stopped script R0 i clock R T h)
-stops_by script R0 i clock R T T' b c Step h step (inr (inl k)) =
-    subst (Stopped script R0 clock) (sym k.0) (record { records = R; legal = started_legal script R0 i clock R T h; time = h.time })
-stops_by script R0 i clock R T T' b c Step h step (inr (inr k)) = step k.0
-
-pub statement_stops : (script : List Statement) (R0 : List Record) (i clock n : ℕ) (s : Statement) (R R' : List Record) (T T' : List HistoryItem) (b c : Option (List ℕ)) → Between script R0 i clock R T → slice_get script i ≡ Some s → n ≡ i + 1 → Stops b c R T T' (Steps (Some n) (λ o. Meets s o R R') clock R R' T T') → Stopped script R0 clock T'
-statement_stops script R0 i clock n s R R' T T' b c h got number k =
-    stops_by script R0 i clock R T T' b c _ h (λ step. stopped script R0 (i + 1) clock R' T' (statement_between script R0 i clock n s R R' T T' h got number step)) k
-
-pub end_stops : (script : List Statement) (R0 : List Record) (clock : ℕ) (R R' : List Record) (T T' : List HistoryItem) (b c : Option (List ℕ)) → Between script R0 (length script) clock R T → Stops b c R T T' (Steps None (λ o. MeetsEnd o R R') clock R R' T T') → Stopped script R0 clock T'
-end_stops script R0 clock R R' T T' b c h k =
-    stops_by script R0 (length script) clock R T T' b c _ h (λ step. stopped script R0 (length script + 1) clock R' T' (end_between script R0 clock R R' T T' h step)) k

@@ -11,4 +11,14 @@ pub mod Stores
 pub mod Acts
 pub mod Histories
 pub mod Texts
+pub mod Since
 pub mod WorkedRow
+pub mod PlainLemmas
+pub mod Survival
+pub mod Flushes
+pub mod Replayed
+pub mod GroupWalk
+pub mod Opened
+pub mod Filling
+pub mod WordsLemmas
+pub mod Told

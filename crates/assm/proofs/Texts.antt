@@ -1,5 +1,5 @@
 -- What the sink took, step by step.
-use Rattle.std.proofs.Common.{◌≡◌, ℕ, ◌+◌, ◌⊎◌, List, [], ◌++◌, length, take, ap, sym, ◌∙◌, arith, Option, Some, None, inl, inr, subst, length-append, append_assoc}
+use Rattle.std.proofs.Common.{◌≡◌, ℕ, ◌+◌, ◌⊎◌, List, [], ◌∷◌, ◌++◌, length, take, refl, slice_get, ap, sym, ◌∙◌, arith, Option, Some, None, inl, inr, subst, length-append, append_assoc}
 use Rattle.std.proofs.lemmas.List.{append-nil, take_all}
 use Rattle.std.proofs.Math.Seq.{take-append-add}
 use Rattle.std.specs.Io.KnownBytes.{Appends}
@@ -8,12 +8,15 @@ use Rattle.assm.specs.declared.record.Record.{Record}
 use Rattle.assm.specs.declared.entry.Outcome.{Outcome}
 use Rattle.assm.specs.declared.entry.HistoryItem.{HistoryItem}
 use Rattle.assm.specs.declared.statement.Statement.{Statement}
-use Rattle.assm.specs.Redo.{active_in}
-use Rattle.assm.specs.Means.{MeetsEnd}
+use Rattle.assm.specs.Redo.{active_in, prefix}
+use Rattle.assm.specs.Lawful.{IsLawful}
+use Rattle.assm.specs.Legal.{IsLegal}
+use Rattle.assm.specs.Means.{Meets, MeetsEnd}
 use Rattle.assm.specs.Lines.{text_of, entry_text}
-use Rattle.assm.specs.Runs.{entry_at, Steps, AppendsNewest, CutsNewest, Stops, NothingEnds, Finished}
-use Rattle.assm.proofs.Histories.{Between, end_between}
+use Rattle.assm.specs.Runs.{start_at, entry_at, Grows, Steps, AppendsNewest, CutsNewest, Stops, Stopped, NothingEnds, Finished}
+use Rattle.assm.proofs.Histories.{Between, statement_between, end_between, started_legal, prefix_all, prefix_grown}
 use Rattle.assm.specs.declared.entry.Outcome.TheVariants as told
+use Rattle.assm.specs.declared.entry.HistoryItem.TheVariants as item
 
 appends_more : (a b c : Option (List ℕ)) (xs ys : List ℕ) → Appends a b xs → Appends b c ys → Appends a c (xs ++ ys)
 appends_more None b c xs ys h k = tt
@@ -57,32 +60,59 @@ text_cut a b c ordinal Means clock R R' T T' h step took =
 text_same : (a b c : Option (List ℕ)) (xs : List ℕ) → c ≡ b → Appends a b xs → AppendsPrefix a c xs
 text_same a b c xs e h = let P : Option (List ℕ) → Type 0 = λ z. AppendsPrefix a z xs in subst P (sym e) (prefix_whole a b xs h)
 
--- where a step stops, what was written is a first part of the text
-pub text_stops : (a b c : Option (List ℕ)) (ordinal : Option ℕ) (Means : Outcome → Type 0) (clock : ℕ) (R R' : List Record) (T T' : List HistoryItem) → Appends a b (text_of T) → Stops b c R T T' (Steps ordinal Means clock R R' T T') → AppendsPrefix a c (text_of T')
-text_stops a b c ordinal Means clock R R' T T' h (inl k) = let P : List HistoryItem → Type 0 = λ z. AppendsPrefix a c (text_of z) in subst P (sym k.0) (text_same a b c (text_of T) k.1 h)
-text_stops a b c ordinal Means clock R R' T T' h (inr (inl k)) = let P : List HistoryItem → Type 0 = λ z. AppendsPrefix a c (text_of z) in subst P (sym k.0) (text_same a b c (text_of T) k.1 h)
-text_stops a b c ordinal Means clock R R' T T' h (inr (inr k)) = text_cut a b c ordinal Means clock R R' T T' h k.0 k.1
+-- what stands before the newer records
+prefix_grows : (R R' : List Record) → Grows R R' → prefix (length R) R' ≡ R
+prefix_grows R R' g = ap (prefix (length R)) g.parts ∙ prefix_grown (length R) g.added R (omega arith) ∙ prefix_all R
+
+stopped_before : (script : List Statement) (R0 : List Record) (a c : Option (List ℕ)) (R R' : List Record) (T' : List HistoryItem) → IsLegal script R0 R T' → Grows R R' → IsLawful R' → AppendsPrefix a c (text_of T') → Stopped a c script R0 R' T'
+stopped_before script R0 a c R R' T' legal grows lawful took = record {
+  count = length R;
+  legal = subst (λ (z : List Record). IsLegal script R0 z T') (sym (prefix_grows R R' grows)) legal;
+  lawful = lawful;
+  took = took;
+}
+
+-- where a step stops, the history is legal, and what was written is a first part of its text
+stopped_by : (script : List Statement) (R0 : List Record) (i clock : ℕ) (a b c : Option (List ℕ)) (ordinal : Option ℕ) (Means : Outcome → Type 0) (R R' : List Record) (T T' : List HistoryItem) → Between script R0 i R T → Appends a b (text_of T) → (Steps ordinal Means clock R R' T T' → IsLegal script R0 R' T') → Stops b c R R' T T' (Steps ordinal Means clock R R' T T') → Stopped a c script R0 R' T'
+stopped_by script R0 i clock a b c ordinal Means R R' T T' h took legal stops =
+    let here : IsLegal script R0 R T → AppendsPrefix a c (text_of T) → Stopped a c script R0 R' T = λ l t. stopped_before script R0 a c R R' T l stops.grows stops.lawful t in
+    elim stops.where_it_stopped [
+      | inl k ↦ subst (λ (z : List HistoryItem). Stopped a c script R0 R' z) (sym k.0) (here h.legal (text_same a b c (text_of T) k.1 took))
+      | inr (inl k) ↦ subst (λ (z : List HistoryItem). Stopped a c script R0 R' z) (sym k.0) (stopped_before script R0 a c R R' (item.Start (start_at R) ∷ T) (started_legal script R0 i R T h) stops.grows stops.lawful (text_same a b c (text_of T) k.1 took))
+      | inr (inr k) ↦ stopped_before script R0 a c R' R' T' (legal k.0) (record { added = []; parts = refl }) stops.lawful (text_cut a b c ordinal Means clock R R' T T' took k.0 k.1)
+    ]
+
+pub statement_stopped : (script : List Statement) (R0 : List Record) (i clock n : ℕ) (s : Statement) (a b c : Option (List ℕ)) (R R' : List Record) (T T' : List HistoryItem) → Between script R0 i R T → Appends a b (text_of T) → slice_get script i ≡ Some s → n ≡ i + 1 → Stops b c R R' T T' (Steps (Some n) (λ o. Meets s o R R') clock R R' T T') → Stopped a c script R0 R' T'
+statement_stopped script R0 i clock n s a b c R R' T T' h took got number stops =
+    stopped_by script R0 i clock a b c (Some n) (λ o. Meets s o R R') R R' T T' h took (λ step. (statement_between script R0 i clock n s R R' T T' h got number step).legal) stops
+
+pub end_stopped : (script : List Statement) (R0 : List Record) (clock : ℕ) (a b c : Option (List ℕ)) (R R' : List Record) (T T' : List HistoryItem) → Between script R0 (length script) R T → Appends a b (text_of T) → Stops b c R R' T T' (Steps None (λ o. MeetsEnd o R R') clock R R' T T') → Stopped a c script R0 R' T'
+end_stopped script R0 clock a b c R R' T T' h took stops =
+    stopped_by script R0 (length script) clock a b c None (λ o. MeetsEnd o R R') R R' T T' h took (λ step. (end_between script R0 clock R R' T T' h step).legal) stops
+
+-- all of it ran, and then something failed
+pub finished_stopped : (script : List Statement) (R0 : List Record) (a c : Option (List ℕ)) (R : List Record) (T : List HistoryItem) → Finished a c script R0 R T → Stopped a c script R0 R T
+finished_stopped script R0 a c R T h = stopped_before script R0 a c R R T h.legal (record { added = []; parts = refl }) h.legal.lawful (prefix_whole a c (text_of T) h.took)
 
 -- ---- the session's end
 taken_back : (o : Outcome) (R R' : List Record) → MeetsEnd o R R' → active_in R' ≡ None
 taken_back told.RolledBack R R' h = ap active_in h.adds
 taken_back o R R' h = absurd h
 
-pub closes : (script : List Statement) (R0 : List Record) (clock : ℕ) (a b c : Option (List ℕ)) (R R' : List Record) (T T' : List HistoryItem) → Between script R0 (length script) clock R T → Appends a b (text_of T) → NothingEnds b c R R' T T' → Finished a c script R0 clock R' T'
-closes script R0 clock a b c R R' T T' h t k =
-    let P : List HistoryItem → Type 0 = λ z. Finished a c script R0 clock R' z in
-    let Q : List Record → Type 0 = λ z. Finished a c script R0 clock z T in
-    let W : Option (List ℕ) → Type 0 = λ z. Finished a z script R0 clock R T in
+pub closes : (script : List Statement) (R0 : List Record) (a b c : Option (List ℕ)) (R R' : List Record) (T T' : List HistoryItem) → Between script R0 (length script) R T → Appends a b (text_of T) → NothingEnds b c R R' T T' → Finished a c script R0 R' T'
+closes script R0 a b c R R' T T' h t k =
+    let P : List HistoryItem → Type 0 = λ z. Finished a c script R0 R' z in
+    let Q : List Record → Type 0 = λ z. Finished a c script R0 z T in
+    let W : Option (List ℕ) → Type 0 = λ z. Finished a z script R0 R T in
     subst P (sym k.history) (subst Q (sym k.records) (subst W (sym k.written) (record {
       legal = h.legal;
       took = t;
       each = omega (arith, h.count);
       idle = h.idle;
       closed = k.idle;
-      time = h.time;
     })))
 
-pub closes_back : (script : List Statement) (R0 : List Record) (clock : ℕ) (a b c : Option (List ℕ)) (R R' : List Record) (T T' : List HistoryItem) → Between script R0 (length script) clock R T → Appends a b (text_of T) → Steps None (λ o. MeetsEnd o R R') clock R R' T T' → AppendsNewest b c T' → Finished a c script R0 clock R' T'
+pub closes_back : (script : List Statement) (R0 : List Record) (clock : ℕ) (a b c : Option (List ℕ)) (R R' : List Record) (T T' : List HistoryItem) → Between script R0 (length script) R T → Appends a b (text_of T) → Steps None (λ o. MeetsEnd o R R') clock R R' T T' → AppendsNewest b c T' → Finished a c script R0 R' T'
 closes_back script R0 clock a b c R R' T T' h t step took =
     let after = end_between script R0 clock R R' T T' h step in
     record {
@@ -91,10 +121,9 @@ closes_back script R0 clock a b c R R' T T' h t step took =
       each = omega (arith, after.count);
       idle = after.idle;
       closed = taken_back step.outcome R R' step.means;
-      time = after.time;
     }
 
 -- either way all of it ran
-pub finished : (script : List Statement) (R0 : List Record) (clock : ℕ) (a b c : Option (List ℕ)) (R R' : List Record) (T T' : List HistoryItem) → Between script R0 (length script) clock R T → Appends a b (text_of T) → NothingEnds b c R R' T T' ⊎ (Steps None (λ o. MeetsEnd o R R') clock R R' T T' × AppendsNewest b c T') → Finished a c script R0 clock R' T'
-finished script R0 clock a b c R R' T T' h t (inl k) = closes script R0 clock a b c R R' T T' h t k
+pub finished : (script : List Statement) (R0 : List Record) (clock : ℕ) (a b c : Option (List ℕ)) (R R' : List Record) (T T' : List HistoryItem) → Between script R0 (length script) R T → Appends a b (text_of T) → NothingEnds b c R R' T T' ⊎ (Steps None (λ o. MeetsEnd o R R') clock R R' T T' × AppendsNewest b c T') → Finished a c script R0 R' T'
+finished script R0 clock a b c R R' T T' h t (inl k) = closes script R0 a b c R R' T T' h t k
 finished script R0 clock a b c R R' T T' h t (inr k) = closes_back script R0 clock a b c R R' T T' h t k.0 k.1

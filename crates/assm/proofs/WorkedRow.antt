@@ -1,11 +1,10 @@
 -- The definitions computed on one small script.
-use Rattle.std.proofs.Common.{◌≡◌, ℕ, List, [], ◌∷◌, refl, ap, sym, ◌∙◌, arith, Some, None, inr, codes, length, map, Ok}
+use Rattle.std.proofs.Common.{◌≡◌, ℕ, List, [], ◌∷◌, refl, ap, sym, ◌∙◌, arith, inr, codes, length, map, Ok}
 use Rattle.std.specs.Ordering.{nat_cmp}
 use Rattle.std.specs.Cmp.{nat_cmp_total}
-use Rattle.std.specs.FinMap.{FinMap, empty, insert, entries, put, entries-insert, len-entries, len-empty}
+use Rattle.std.specs.FinMap.{empty, insert, entries, put, entries-insert, len-entries, len-empty}
 use Rattle.std.proofs.lemmas.Fmt.{decimal_digit}
 use Rattle.assm.specs.Tables.{Rows}
-use Rattle.assm.specs.Redo.{prefix}
 use Rattle.assm.specs.Script.{script_of, statement_of, may_follow, more}
 use Rattle.assm.specs.Bytes.{lines}
 use Rattle.assm.specs.Lines.{text_of, entry_text, outcome_text, scan_text, row_line}
@@ -39,23 +38,23 @@ legal = record {
   from = refl;
   lawful = (record { active = refl; ordinal = refl }, (record { active = refl; table = refl; number = refl; some = omega arith; short = omega arith }, (record { idle = refl; number = refl }, (record { is_new = refl; few = omega arith; share = omega arith; number = refl }, tt))));
   told = (
-    record { started = refl; grows = omega arith; order = omega arith; within = omega arith; moment = omega arith; meets = (refl, (_, refl, (refl, refl))) },
+    record { started = refl; grows = omega arith; order = omega arith; within = omega arith; meets = (refl, (_, refl, (refl, refl))) },
     (
       record { idle = refl; begins = refl },
       (
-        record { started = refl; grows = omega arith; order = omega arith; within = omega arith; moment = omega arith; meets = (refl, (_, refl, (refl, record { obj = 1; table = refl; number = refl; each = ap (map row_out) (sym (one_entry 1 (codes "hello"))); same = refl }))) },
+        record { started = refl; grows = omega arith; order = omega arith; within = omega arith; meets = (refl, (_, refl, (refl, record { obj = 1; table = refl; number = refl; each = ap (map row_out) (sym (one_entry 1 (codes "hello"))); same = refl }))) },
         (
           record { idle = refl; begins = refl },
           (
-            record { started = refl; grows = omega arith; order = omega arith; within = omega arith; moment = omega arith; meets = (refl, (_, refl, record { txn = 1; active = refl; ordinal = refl; adds = refl })) },
+            record { started = refl; grows = omega arith; order = omega arith; within = omega arith; meets = (refl, (_, refl, record { txn = 1; active = refl; ordinal = refl; adds = refl })) },
             (
               record { idle = refl; begins = refl },
               (
-                record { started = refl; grows = omega arith; order = omega arith; within = omega arith; moment = omega arith; meets = (refl, (_, refl, record { txn = 1; obj = 1; between = _; table = refl; starts = inr (refl, refl, refl); number = refl; adds = refl })) },
+                record { started = refl; grows = omega arith; order = omega arith; within = omega arith; meets = (refl, (_, refl, record { txn = 1; obj = 1; between = _; table = refl; starts = inr (refl, refl, refl); number = refl; adds = refl })) },
                 (
                   record { idle = refl; begins = refl },
                   (
-                    record { started = refl; grows = omega arith; order = omega arith; within = omega arith; moment = omega arith; meets = (refl, (_, refl, (refl, record { is_new = refl; few = omega arith; idle = refl; adds = refl }))) },
+                    record { started = refl; grows = omega arith; order = omega arith; within = omega arith; meets = (refl, (_, refl, (refl, record { is_new = refl; few = omega arith; idle = refl; adds = refl }))) },
                     (record { idle = refl; begins = refl }, tt),
                   ),
                 ),

@@ -1,5 +1,5 @@
 -- Which record may follow which.
-use Rattle.std.specs.Prelude.{◌≡◌, ℕ, ◌+◌, ◌<◌, ◌≤◌, true, List, [], ◌∷◌, length, Some, None}
+use Rattle.std.specs.Prelude.{◌≡◌, ℕ, ◌+◌, ◌<◌, ◌≤◌, Bool, true, false, ◌==◌, List, [], ◌∷◌, length, Option, Some, None}
 use Rattle.assm.specs.declared.record.Record.{Record}
 use Rattle.assm.specs.declared.record.Record.TheVariants.{Table, Begin, Insert, Commit, Ended}
 use Rattle.assm.specs.Redo.{commit_count, row_count, transaction_count, table_count, active_in, named, is_there}
@@ -37,3 +37,12 @@ IsAllowed (Ended txn) R = active_in R ≡ Some txn
 abbrev pub IsLawful : List Record → Type 0
 IsLawful [] = Unit {0}
 IsLawful (r ∷ R) = IsAllowed r R × IsLawful R
+
+-- a record was added where it may stand, and nothing was done where it may not
+abbrev pub Replays : Bool → Record → List Record → List Record → Type 0
+Replays true r R R' = IsAllowed r R × (R' ≡ r ∷ R)
+Replays false r R R' = (IsAllowed r R → ⊥) × (R' ≡ R)
+
+abbrev pub is_active : ℕ → Option ℕ → Bool
+is_active txn None = false
+is_active txn (Some active) = active == txn

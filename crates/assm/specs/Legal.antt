@@ -36,12 +36,6 @@ covered first [] = first
 covered first (item.Start start ∷ T) = covered first T
 covered first (item.Entry entry ∷ T) = entry.ends
 
--- the newest entry's moment
-abbrev pub last_moment : List HistoryItem → ℕ
-last_moment [] = 0
-last_moment (item.Start start ∷ T) = last_moment T
-last_moment (item.Entry entry ∷ T) = entry.moment
-
 -- a statement starts where none of its session is under way. With one session each record belongs to one statement, so no
 -- record stands between the last entry and the start
 pub record StartStands (first : ℕ) (start : Start) (T : List HistoryItem) : Type 0 where
@@ -59,7 +53,6 @@ pub record EntryStands (script : List Statement) (first : ℕ) (R : List Record)
   pub grows : entry.begins ≤ entry.ends
   pub order : covered first T ≤ entry.ends
   pub within : entry.ends ≤ length R
-  pub moment : last_moment T ≤ entry.moment
   pub meets : MeetsPlace script entry.ordinal entry.outcome (entry_count entry.session T) (prefix entry.begins R) (prefix entry.ends R)
 
 abbrev pub Stands : List Statement → ℕ → List Record → HistoryItem → List HistoryItem → Type 0
@@ -78,3 +71,9 @@ pub record IsLegal (script : List Statement) (R0 R : List Record) (T : List Hist
   pub lawful : IsLawful R
   pub told : IsTold script (length R0) R T
   pub whole : covered (length R0) T ≡ length R
+
+-- the moments of the entries never fall, and none is later than this
+abbrev pub AreInTime : ℕ → List HistoryItem → Type 0
+AreInTime moment [] = Unit {0}
+AreInTime moment (item.Start start ∷ T) = AreInTime moment T
+AreInTime moment (item.Entry entry ∷ T) = (entry.moment ≤ moment) × AreInTime entry.moment T

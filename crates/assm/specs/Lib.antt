@@ -12,6 +12,12 @@ pub mod Drafted
 pub mod Lines
 pub mod Legal
 pub mod Runs
-pub mod Status
-pub mod Top
+pub mod Plain
+pub mod Replaying
+pub mod Survives
+pub mod Live
+pub mod Opens
 pub mod Worked
+pub mod Status
+pub mod Words
+pub mod Top

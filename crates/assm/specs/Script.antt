@@ -1,5 +1,5 @@
 -- The grammar of a script, line by line. This engine's own.
-use Rattle.std.specs.Prelude.{ℕ, ◌+◌, Bool, true, false, not, ◌&&◌, ◌==◌, nat_le, nat_lt, if◌then◌else◌, List, [], ◌∷◌, ◌++◌, length, Option, Some, None, Result, Ok, Err, ok_or, option_and_then, codes}
+use Rattle.std.specs.Prelude.{ℕ, ◌+◌, Bool, true, not, ◌&&◌, ◌==◌, nat_le, nat_lt, if◌then◌else◌, List, [], ◌∷◌, ◌++◌, length, Option, Some, None, Result, Ok, Err, ok_or, option_and_then, codes}
 use Rattle.std.specs.List.{list_all, list_any}
 use Rattle.std.specs.Str.{bytes_eq}
 use Rattle.seg_base.specs.Words.{is_name}
@@ -52,19 +52,14 @@ statement_with verb (Some rest) =
 unfoldable pub statement_of : List ℕ → Option Statement
 statement_of line = statement_with (cut 32 line).0 (cut 32 line).1
 
-abbrev pub is_table : Statement → Bool
-is_table (Table name pctfree) = true
-is_table statement = false
-
 -- the labels that the statements bind, in order
 abbrev pub labels_of : List Statement → List (List ℕ)
 labels_of [] = []
 labels_of (Insert name label text ∷ rest) = label ∷ labels_of rest
 labels_of (statement ∷ rest) = labels_of rest
 
--- whether a statement may follow those before it: there is one table, and a label is bound once
+-- whether a statement may follow those before it: a label is bound once
 unfoldable pub may_follow : List Statement → Statement → Bool
-may_follow before (Table name pctfree) = not (list_any is_table before)
 may_follow before (Insert name label text) = not (list_any (bytes_eq label) (labels_of before))
 may_follow before statement = true
 

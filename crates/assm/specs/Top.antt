@@ -1,22 +1,22 @@
--- What the top call promises of a run.
-use Rattle.std.specs.Prelude.{◌≡◌, ◌⊎◌, ℕ, ◌^◌, ◌≤◌, Bool, false, List, [], ◌∷◌, length, Option, Ok, Err, codes}
-use Rattle.std.specs.Str.{bytes_eq}
+-- What the top call promises.
+use Rattle.std.specs.Prelude.{◌≡◌, ◌⊎◌, ℕ, ◌+◌, ◌-◌, ◌/◌, ◌^◌, ◌≤◌, true, List, ◌++◌, length, Option, Ok, Err, codes}
+use Rattle.std.specs.Fmt.{decimal}
+use Rattle.std.specs.Io.KnownBytes.{Appends}
+use Rattle.seg_base.specs.declared.shape.Shape.{Shape}
+use Rattle.disk_model.specs.Files.{Files}
+use Rattle.disk_model.specs.Crash.{Meaning, Now, Leaves, Untouched}
 use Rattle.text_port.specs.Whole.{AppendsPrefix, WereAll}
+use Rattle.log_frame.specs.Head.{is_formatted}
 use Rattle.assm.specs.declared.record.Record.{Record}
 use Rattle.assm.specs.declared.statement.Statement.{Statement}
 use Rattle.assm.specs.declared.entry.HistoryItem.{HistoryItem}
 use Rattle.assm.specs.declared.status.Status.{Status}
-use Rattle.assm.specs.declared.status.Status.TheVariants.{Done, BadScript, NoMemory, WriteFault}
+use Rattle.assm.specs.declared.status.Status.TheVariants.{Done, BadScript, DeviceFault, NoMemory, BadFile, NotFormatted, ReadFault, WriteFault, ScriptTooLong, AlreadyFormatted}
 use Rattle.assm.specs.Bytes.{lines}
 use Rattle.assm.specs.Script.{script_of}
-use Rattle.assm.specs.Lines.{text_of}
 use Rattle.assm.specs.Runs.{Finished, Stopped}
-
--- the words of the one command
-abbrev pub is_run : List (List ℕ) → Bool
-is_run [] = false
-is_run (word ∷ []) = bytes_eq word (codes "run")
-is_run (word ∷ other ∷ words) = false
+use Rattle.assm.specs.Survives.{IsSound, Lasts}
+use Rattle.assm.specs.Opens.{StartsSound, StartsBlank, BlankOrEmpty, IsMade, TakenBack}
 
 -- what the source had left is a script of at most 2^24 bytes, which has P
 pub record HadScript (left : Option (List ℕ)) (P : List ℕ → Type 0) : Type 0 where
@@ -29,34 +29,77 @@ pub record HadScript (left : Option (List ℕ)) (P : List ℕ → Type 0) : Type
 abbrev pub IsRefused : ℕ → List ℕ → Type 0
 IsRefused line script = script_of (lines script) ≡ Err line
 
--- The script is in the grammar, and all of its statements ran: the sink took the text of a legal history of them.
-pub record RanWhole (clock : ℕ) (old new : Option (List ℕ)) (script : List ℕ) : Type 0 where
-  pub statements : List Statement
-  pub says : script_of (lines script) ≡ Ok statements
-  pub records : List Record
-  pub history : List HistoryItem
-  pub finished : Finished old new statements [] clock records history
+module _ {D : Type 0} (meaning : Meaning D) (disk disk' : D) (old new : Option (List ℕ)) where
+  -- nothing was printed, and no call changed the disk
+  pub record NothingRan : Type 0 where
+    pub printed : new ≡ old
+    pub untouched : Untouched meaning disk disk'
 
--- The script is in the grammar, and its run stopped: the sink took a first part of the text of a legal history of its
--- statements.
-pub record RanPart (clock : ℕ) (old new : Option (List ℕ)) (script : List ℕ) : Type 0 where
-  pub statements : List Statement
-  pub says : script_of (lines script) ≡ Ok statements
-  pub history : List HistoryItem
-  pub stopped : Stopped statements [] clock history
-  pub took : AppendsPrefix old new (text_of history)
+  -- Where the files were a sound store: the run began with its records, and with its active transaction taken back. What was
+  -- told has survived at each moment of the call, and the moments of its entries never fall.
+  pub record Kept (R0 R : List Record) (T : List HistoryItem) : Type 0 where
+    pub taken : (shape : Shape) (R' : List Record) → StartsSound meaning disk shape R' → TakenBack R' R0
+    pub lasts : (shape : Shape) (R' : List Record) → StartsSound meaning disk shape R' → Lasts meaning (meaning.clock disk) shape (length R') R T disk'
 
--- What the sink took, at each status. A script is run only where it is in the grammar, and memory may run out at any place.
-abbrev pub Printed : Status → Option (List ℕ) → ℕ → Option (List ℕ) → Option (List ℕ) → Type 0
-Printed Done left clock old new = HadScript left (RanWhole clock old new)
-Printed WriteFault left clock old new = HadScript left (RanPart clock old new)
-Printed NoMemory left clock old new = (new ≡ old) ⊎ HadScript left (RanPart clock old new)
-Printed status left clock old new = new ≡ old
+  -- The script is in the grammar, and all of its statements ran: the sink took the text of a legal history of them. The log
+  -- then has all records, whatever a crash leaves.
+  pub record RanWhole (script : List ℕ) : Type 0 where
+    pub statements : List Statement
+    pub says : script_of (lines script) ≡ Ok statements
+    pub first : List Record
+    pub records : List Record
+    pub history : List HistoryItem
+    pub finished : Finished old new statements first records history
+    pub kept : Kept first records history
+    pub stable : (shape : Shape) (R' : List Record) → StartsSound meaning disk shape R' → (image : Files) → Now meaning disk' image → IsSound shape records image
 
--- The same of the script's bytes alone.
-abbrev pub RunTells : Status → List ℕ → ℕ → Option (List ℕ) → Option (List ℕ) → Type 0
-RunTells Done script clock old new = RanWhole clock old new script
-RunTells WriteFault script clock old new = RanPart clock old new script
-RunTells NoMemory script clock old new = (new ≡ old) ⊎ RanPart clock old new script
-RunTells (BadScript line why) script clock old new = IsRefused line script × (new ≡ old)
-RunTells status script clock old new = ⊥
+  -- The script is in the grammar, and its run stopped: the sink took a first part of the text of a legal history of its
+  -- statements.
+  pub record RanPart (script : List ℕ) : Type 0 where
+    pub statements : List Statement
+    pub says : script_of (lines script) ≡ Ok statements
+    pub first : List Record
+    pub records : List Record
+    pub history : List HistoryItem
+    pub stopped : Stopped old new statements first records history
+    pub kept : Kept first records history
+
+  -- no sound store meets this
+  abbrev pub NeverSound : Type 0
+  NeverSound = (shape : Shape) (R' : List Record) → StartsSound meaning disk shape R' → ⊥
+
+  -- What a status says of a script that was read. It is run only where it is in the grammar.
+  abbrev pub RunTells : Status → List ℕ → Type 0
+  RunTells Done script = RanWhole script
+  RunTells WriteFault script = RanPart script
+  RunTells DeviceFault script = NothingRan ⊎ RanPart script
+  RunTells NoMemory script = NothingRan ⊎ RanPart script
+  RunTells (BadScript line why) script = IsRefused line script × NothingRan
+  RunTells (BadFile which offset seen) script = NothingRan × NeverSound
+  RunTells NotFormatted script = NothingRan × NeverSound
+  RunTells status script = ⊥
+
+  -- what a status of `run` says
+  abbrev pub ScriptTells : Option (List ℕ) → Status → Type 0
+  ScriptTells left ReadFault = NothingRan
+  ScriptTells left ScriptTooLong = NothingRan
+  ScriptTells left NoMemory = NothingRan ⊎ HadScript left (RunTells NoMemory)
+  ScriptTells left status = HadScript left (RunTells status)
+
+-- the line of a store that was made: its shape, and the number of whole extents
+abbrev pub shape_text : Shape → List ℕ
+shape_text shape = codes "formatted " ++ decimal shape.blocks ++ codes " " ++ decimal shape.extent ++ codes " " ++ decimal shape.undo ++ codes " extents " ++ decimal ((shape.blocks - (37 + shape.undo)) / shape.extent) ++ codes "\n"
+
+module _ {D : Type 0} (meaning : Meaning D) (disk disk' : D) (old new : Option (List ℕ)) (shape : Shape) where
+  -- a crash at a moment of the call leaves a log that isn't formatted, or the whole empty store
+  abbrev pub MakesOrNot : Type 0
+  MakesOrNot = StartsBlank meaning disk → Leaves meaning disk disk' (BlankOrEmpty shape)
+
+  -- what a status of `format` says
+  abbrev pub FormatTells : Status → Type 0
+  FormatTells Done = Appends old new (shape_text shape) × MakesOrNot × (StartsBlank meaning disk → IsMade meaning disk' shape)
+  FormatTells WriteFault = AppendsPrefix old new (shape_text shape) × MakesOrNot × (StartsBlank meaning disk → IsMade meaning disk' shape)
+  FormatTells AlreadyFormatted = (new ≡ old) × Untouched meaning disk disk' × (meaning.told disk → is_formatted (meaning.files disk).log_bytes ≡ true)
+  FormatTells DeviceFault = (new ≡ old) × MakesOrNot
+  FormatTells NoMemory = (new ≡ old) × MakesOrNot
+  FormatTells status = ⊥

@@ -1,7 +1,6 @@
 -- The definitions on one small script: a table, a row, a commit and two scans.
-use Rattle.std.specs.Prelude.{◌≡◌, ℕ, List, [], ◌∷◌, Option, Some, None, Ok, codes}
+use Rattle.std.specs.Prelude.{◌≡◌, ℕ, List, [], ◌∷◌, Some, None, Ok, codes}
 use Rattle.std.specs.FinMap.{entries}
-use Rattle.seg_base.specs.Words.{is_name}
 use Rattle.assm.specs.declared.record.Record.{Record}
 use Rattle.assm.specs.declared.record.Record.TheVariants as made
 use Rattle.assm.specs.declared.statement.Statement.{Statement}

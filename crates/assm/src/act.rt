@@ -1,9 +1,12 @@
 // What a statement does to the store.
 ghost use Rattle.std.specs.Prelude.{◌≡◌, ◌+◌, ◌<◌, ◌≤◌, ◌^◌, List, ℕ, Some, true, length, IfOk, OnOk};
-ghost use Rattle.assm.specs.Redo.{active_in, named, row_count, tables_of};
+ghost use Rattle.assm.specs.Redo.{active_in, commit_count, named, row_count, tables_of};
+ghost use Rattle.assm.specs.Lawful.{IsLawful};
 ghost use Rattle.assm.specs.Means.{Meets, Starts};
+ghost use Rattle.assm.specs.Runs.{Grows};
 ghost use Rattle.assm.specs.Spelled.{IsStatement};
 ghost use Rattle.assm.specs.Script.{is_text};
+ghost use Rattle.assm.specs.Survives.{commit_told};
 
 use crate::entry::{Outcome, Refusal};
 use crate::statement::Statement;
@@ -13,6 +16,7 @@ use std::alloc::Global;
 
 const MOST_TABLES: usize = 32;
 
+#[tactic(auto, using(crate::proofs::Acts::grows_none, crate::proofs::Acts::grows_one))]
 fn make_table(
     alloc: Global,
     store: &mut PlainStore,
@@ -20,7 +24,9 @@ fn make_table(
     pctfree: u8,
 ) -> Result<Outcome, NoMemory>
     requires { pctfree ≤ 50 }
-    ensures { IfOk result (λ outcome. Meets (Statement.Table name.now pctfree) outcome store.old store.new) }
+    ensures meets { IfOk result (λ outcome. Meets (Statement.Table name.now pctfree) outcome store.old store.new) }
+    ensures grows { Grows store.old store.new }
+    ensures lawful { IsLawful store.new }
 {
     if store.table(name).is_some() {
         return Ok(Outcome::Refused(Refusal::TableExists));
@@ -37,6 +43,7 @@ fn make_table(
 }
 
 /// The active transaction, which begins here where there is none.
+#[tactic(auto, using(crate::proofs::Acts::grows_none, crate::proofs::Acts::grows_one))]
 fn start(store: &mut PlainStore) -> Result<TxnId, NoMemory>
     requires { length store.old < 2 ^ 63 }
     ensures starts { IfOk result (λ txn. Starts store.old txn store.new) }
@@ -44,14 +51,19 @@ fn start(store: &mut PlainStore) -> Result<TxnId, NoMemory>
     ensures tables { OnOk result (tables_of store.new ≡ tables_of store.old) }
     ensures rows { OnOk result (row_count store.new ≡ row_count store.old) }
     ensures room { OnOk result (length store.new ≤ length store.old + 1) }
+    ensures grows { Grows store.old store.new }
+    ensures lawful { IsLawful store.new }
 {
     match store.active() {
         Some(txn) => Ok(txn),
-        None => store.begin(),
+        None => match store.begin() {
+            Ok(txn) => Ok(txn),
+            Err(error) => Err(error),
+        },
     }
 }
 
-#[tactic(auto, using(crate::proofs::Acts::is_there_named, crate::proofs::Acts::text_some, crate::proofs::Acts::text_short))]
+#[tactic(auto, using(crate::proofs::Acts::is_there_named, crate::proofs::Acts::text_some, crate::proofs::Acts::text_short, crate::proofs::Acts::grows_none, crate::proofs::Acts::grows_more))]
 fn insert(
     alloc: Global,
     store: &mut PlainStore,
@@ -60,30 +72,41 @@ fn insert(
 ) -> Result<Outcome, NoMemory>
     requires text { is_text text.now ≡ true }
     requires room { length store.old < 2 ^ 63 }
-    ensures { IfOk result (λ outcome. (label : List ℕ) → Meets (Statement.Insert table.now label text.now) outcome store.old store.new) }
+    ensures told { IfOk result (λ outcome. commit_told outcome ≡ 0) }
+    ensures grows { Grows store.old store.new }
+    ensures lawful { IsLawful store.new }
+    ensures meets { IfOk result (λ outcome. (label : List ℕ) → Meets (Statement.Insert table.now label text.now) outcome store.old store.new) }
 {
     let Some(obj) = store.table(table) else {
         return Ok(Outcome::Refused(Refusal::NoTable));
     };
     let bytes = text.duplicate(alloc)?;
     let txn = start(store)?;
-    let row = store.insert(txn, obj, bytes)?;
-    Ok(Outcome::Inserted { row })
+    match store.insert(txn, obj, bytes) {
+        Ok(row) => Ok(Outcome::Inserted { row }),
+        Err(error) => Err(error),
+    }
 }
 
+#[tactic(auto, using(crate::proofs::Acts::grows_none, crate::proofs::Acts::grows_one))]
 fn commit(store: &mut PlainStore) -> Result<Outcome, NoMemory>
     requires { length store.old < 2 ^ 63 }
-    ensures { IfOk result (λ outcome. Meets Statement.Commit outcome store.old store.new) }
+    ensures meets { IfOk result (λ outcome. Meets Statement.Commit outcome store.old store.new) }
+    ensures grows { Grows store.old store.new }
+    ensures lawful { IsLawful store.new }
 {
     let Some(txn) = store.active() else {
         return Ok(Outcome::NothingToCommit);
     };
-    let number = store.commit(txn)?;
-    Ok(Outcome::Committed { number })
+    match store.commit(txn) {
+        Ok(number) => Ok(Outcome::Committed { number }),
+        Err(error) => Err(error),
+    }
 }
 
 fn scan(alloc: Global, store: &PlainStore, table: &Name) -> Result<Outcome, NoMemory>
-    ensures { IfOk result (λ outcome. Meets (Statement.Scan table.now) outcome store.now store.now) }
+    ensures meets { IfOk result (λ outcome. Meets (Statement.Scan table.now) outcome store.now store.now) }
+    ensures lawful { IsLawful store.now }
 {
     let Some(obj) = store.table(table) else {
         return Ok(Outcome::Refused(Refusal::NoTable));
@@ -97,6 +120,7 @@ fn scan(alloc: Global, store: &PlainStore, table: &Name) -> Result<Outcome, NoMe
 }
 
 /// What a statement does, and what it led to.
+#[tactic(auto, using(crate::proofs::Acts::grows_none, crate::proofs::Acts::told_within))]
 pub fn act(
     alloc: Global,
     store: &mut PlainStore,
@@ -104,7 +128,10 @@ pub fn act(
 ) -> Result<Outcome, NoMemory>
     requires statement { IsStatement statement.now }
     requires room { length store.old < 2 ^ 63 }
-    ensures { IfOk result (λ outcome. Meets statement.now outcome store.old store.new) }
+    ensures meets { IfOk result (λ outcome. Meets statement.now outcome store.old store.new) }
+    ensures told { IfOk result (λ outcome. commit_told outcome ≤ commit_count store.new) }
+    ensures grows { Grows store.old store.new }
+    ensures lawful { IsLawful store.new }
 {
     match statement {
         Statement::Table { name, pctfree } => make_table(alloc, store, name, *pctfree),

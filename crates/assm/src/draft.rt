@@ -2,7 +2,7 @@
 ghost use Rattle.std.specs.Prelude.{◌≡◌, [], ◌∷◌, ◌++◌, not, true, OnErr, OnOk};
 ghost use Rattle.std.specs.List.{list_all, list_any};
 ghost use Rattle.std.specs.Str.{bytes_eq};
-ghost use Rattle.assm.specs.Script.{is_table, labels_of, may_follow};
+ghost use Rattle.assm.specs.Script.{labels_of, may_follow};
 ghost use Rattle.assm.specs.Spelled.{IsStatement};
 ghost use Rattle.assm.specs.Runs.{AreStatements};
 
@@ -17,7 +17,6 @@ use std::marker::Model;
 pub struct Draft {
     statements: Vec<Statement>,
     labels: Labels,
-    has_table: bool,
 }
 
 impl Model for Draft {
@@ -30,13 +29,7 @@ impl Model for Draft {
 
     ghost view = { λ d. d.statements.items };
 
-    ghost invariant = { λ d. IsDraft d.statements.items d.labels d.has_table };
-}
-
-fn is_table(statement: &Statement) -> bool
-    ensures { result ≡ is_table statement.now }
-{
-    matches!(statement, Statement::Table { .. })
+    ghost invariant = { λ d. IsDraft d.statements.items d.labels };
 }
 
 /// Binds the statement's label, where it has one.
@@ -59,24 +52,21 @@ impl Draft {
         Draft {
             statements: Vec::new(alloc),
             labels: Labels::new(alloc),
-            has_table: false,
         }
     }
 
-    /// Whether the statement may follow those before it: there is one table, and a label is bound once.
+    /// Whether the statement may follow those before it: a label is bound once.
     #[tactic(auto, unfolding(crate::specs::Script::may_follow))]
     pub fn may_follow(&self, statement: &Statement) -> bool
         ensures { result ≡ may_follow self.now statement.now }
     {
         match statement {
-            Statement::Table { .. } => !self.has_table,
             Statement::Insert { label, .. } => !self.labels.is_bound(label.as_slice()),
-            Statement::Commit | Statement::Scan { .. } => true,
+            Statement::Table { .. } | Statement::Commit | Statement::Scan { .. } => true,
         }
     }
 
     /// Adds a statement that may follow.
-    #[tactic(auto, using(crate::proofs::Drafts::labels_push, crate::proofs::Drafts::tables_push, crate::proofs::Drafts::labels_free))]
     pub fn add(&mut self, alloc: Global, statement: Statement) -> Result<(), NoMemory>
         requires follows { may_follow self.old statement ≡ true }
         requires statement { IsStatement statement }
@@ -85,7 +75,6 @@ impl Draft {
     {
         self.statements.reserve(1)?;
         bind_label(alloc, &mut self.labels, &statement)?;
-        self.has_table |= is_table(&statement);
         self.statements.push(statement).unwrap();
         Ok(())
     }

@@ -9,6 +9,8 @@ use thiserror::Error;
 pub enum RunFault {
     #[error("no memory")]
     NoMemory,
+    #[error("the disk has failed")]
+    DeviceFault,
     #[error("the sink has failed")]
     WriteFault,
 }

@@ -1,16 +1,21 @@
-//! The program: runs a script of sessions over a store. In this stage it is one session, and the store is a list of
-//! redo records in memory.
+//! The program: runs a script of sessions over a store. In this stage it is one session, and the store is its redo list,
+//! kept in the log file.
 #![tactic(auto)]
 
 mod act;
 mod bytes;
+mod codec;
 mod draft;
 mod entry;
 mod fault;
+mod format;
+mod input;
 mod labels;
 mod laws;
 mod line;
+mod opening;
 mod record;
+mod replay;
 mod rows;
 mod run;
 mod script;
@@ -20,9 +25,10 @@ mod store;
 #[cfg(test)]
 mod tests;
 mod top;
+mod words;
 mod world;
 
-use disk_model::Memory;
+use disk_host::Host;
 use seg_base::Open;
 use status::Status;
 use std::env::{self, Env};
@@ -32,7 +38,7 @@ use text_port::{Stdin, Stdout};
 use top::run_program;
 
 /// The words after the program's name. A word that is no text is none of ours.
-fn words<R: Env + AllocGlobal>(rt: &R) -> Result<Vec<String>, Status> {
+fn own_words<R: Env + AllocGlobal>(rt: &R) -> Result<Vec<String>, Status> {
     match env::args(rt) {
         Ok(args) => match args.skip(1).collect(rt.alloc()) {
             Ok(words) => Ok(words),
@@ -46,19 +52,17 @@ fn words<R: Env + AllocGlobal>(rt: &R) -> Result<Vec<String>, Status> {
 }
 
 fn main(rt: HostRuntime) -> ExitCode {
-    let alloc = rt.alloc();
-    let status = match (words(&rt), Memory::new(alloc, &[], &[], &[])) {
-        (Ok(words), Ok(mut disk)) => run_program(
+    let status = match own_words(&rt) {
+        Ok(words) => run_program(
             &rt,
-            alloc,
+            rt.alloc(),
             &words,
-            &mut disk,
+            &mut Host::new(&rt, "assm.dat", "assm.log"),
             &mut Stdin::new(rt.stdin()),
             &mut Stdout::new(rt.stdout()),
             &Open,
         ),
-        (Err(status), _) => status,
-        (Ok(_), Err(_)) => Status::NoMemory,
+        Err(status) => status,
     };
     if status != Status::Done {
         let _ = eprintln!(rt; "assm: {status}");

@@ -1,29 +1,56 @@
 // How the program ends.
 ghost use Rattle.std.specs.Prelude.{◌≡◌};
-ghost use Rattle.assm.specs.Status.{number_of, status_of_run, status_of_read, status_of_script};
+ghost use Rattle.assm.specs.Status.{number_of, status_of_run, status_of_read, status_of_script, status_of_open};
 
 use crate::fault::RunFault;
+use crate::opening::OpenFault;
 use crate::script::{ScriptFault, Why};
+use disk_model::File;
+use std::fmt;
 use text_port::ReadEnd;
-use thiserror::Error;
 
 /// Shown as the variant's name, with its fields after spaces.
-#[derive(Clone, Copy, Debug, PartialEq, Eq, Error)]
+#[derive(Clone, Copy, Debug, PartialEq, Eq)]
 pub enum Status {
-    #[error("Done")]
     Done,
-    #[error("BadWords")]
     BadWords,
-    #[error("BadScript {line} {why}")]
     BadScript { line: u32, why: Why },
-    #[error("NoMemory")]
+    DeviceFault,
     NoMemory,
-    #[error("ReadFault")]
+    BadFile { file: File, offset: u64, seen: u8 },
+    NotFormatted,
     ReadFault,
-    #[error("WriteFault")]
     WriteFault,
-    #[error("ScriptTooLong")]
     ScriptTooLong,
+    AlreadyFormatted,
+}
+
+fn file_name(file: File) -> &'static str {
+    match file {
+        File::Data => "data",
+        File::Log => "log",
+    }
+}
+
+impl fmt::Display for Status {
+    fn fmt<W: fmt::Write>(&self, f: &mut fmt::Formatter<W>) -> fmt::Result {
+        match self {
+            Status::Done => write!(f, "Done"),
+            Status::BadWords => write!(f, "BadWords"),
+            Status::BadScript { line, why } => write!(f, "BadScript {line} {why}"),
+            Status::DeviceFault => write!(f, "DeviceFault"),
+            Status::NoMemory => write!(f, "NoMemory"),
+            Status::BadFile { file, offset, seen } => {
+                let name = file_name(*file);
+                write!(f, "BadFile {name} {offset} {seen}")
+            }
+            Status::NotFormatted => write!(f, "NotFormatted"),
+            Status::ReadFault => write!(f, "ReadFault"),
+            Status::WriteFault => write!(f, "WriteFault"),
+            Status::ScriptTooLong => write!(f, "ScriptTooLong"),
+            Status::AlreadyFormatted => write!(f, "AlreadyFormatted"),
+        }
+    }
 }
 
 impl Status {
@@ -35,10 +62,14 @@ impl Status {
             Status::Done => 0,
             Status::BadWords => 1,
             Status::BadScript { .. } => 2,
+            Status::DeviceFault => 3,
             Status::NoMemory => 4,
+            Status::BadFile { .. } => 5,
+            Status::NotFormatted => 6,
             Status::ReadFault => 7,
             Status::WriteFault => 8,
             Status::ScriptTooLong => 9,
+            Status::AlreadyFormatted => 10,
         }
     }
 }
@@ -49,6 +80,7 @@ impl From<RunFault> for Status {
     fn from(fault: RunFault) -> Status {
         match fault {
             RunFault::NoMemory => Status::NoMemory,
+            RunFault::DeviceFault => Status::DeviceFault,
             RunFault::WriteFault => Status::WriteFault,
         }
     }
@@ -73,6 +105,20 @@ impl From<ScriptFault> for Status {
         match fault {
             ScriptFault::BadLine { line, why } => Status::BadScript { line, why },
             ScriptFault::NoMemory => Status::NoMemory,
+        }
+    }
+}
+
+impl From<OpenFault> for Status {
+    ghost from_gives = { λ fault status. status ≡ status_of_open fault };
+
+    fn from(fault: OpenFault) -> Status {
+        match fault {
+            OpenFault::DeviceFault => Status::DeviceFault,
+            OpenFault::NotFormatted => Status::NotFormatted,
+            OpenFault::BadFile { file, offset, seen } => Status::BadFile { file, offset, seen },
+            OpenFault::AlreadyFormatted => Status::AlreadyFormatted,
+            OpenFault::NoMemory => Status::NoMemory,
         }
     }
 }

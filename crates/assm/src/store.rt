@@ -1,10 +1,13 @@
 // The plain store of this stage: the redo list in memory.
-ghost use Rattle.std.specs.Prelude.{◌≡◌, [], ◌∷◌, ◌+◌, ◌<◌, ◌≤◌, ◌^◌, Some, None, true, length, reverse, OnErr, OnOk, IfOk};
+ghost use Rattle.std.specs.List.{list_any};
+ghost use Rattle.std.specs.Prelude.{◌≡◌, ◌==◌, [], ◌∷◌, ◌+◌, ◌<◌, ◌≤◌, ◌^◌, Some, None, true, length, reverse, OnErr, OnOk, IfOk};
 ghost use Rattle.assm.specs.declared.record.Record.TheVariants as made;
 ghost use Rattle.assm.specs.Redo.{commit_count, row_count, transaction_count, table_count, active_in, named, find_named, is_there};
 ghost use Rattle.assm.specs.Lawful.{IsLawful};
 ghost use Rattle.assm.specs.Tables.{view};
+ghost use Rattle.assm.specs.Plain.{IsSpelledSince};
 
+use crate::codec::record_bytes;
 use crate::record::{CatalogueRow, Record};
 use crate::rows::{Rows, view};
 use seg_base::{Lsn, Name, Newest, NoMemory, Obj, RowNo, Scn, Text, TxnId};
@@ -50,6 +53,12 @@ fn find_named(catalogue: &[CatalogueRow], name: &Name) -> Option<Obj>
     found
 }
 
+fn is_among(catalogue: &[CatalogueRow], obj: Obj) -> bool
+    ensures { result ≡ list_any (λ row. row.obj == obj) catalogue.now }
+{
+    catalogue.iter().any(|row| row.obj.0 == obj.0)
+}
+
 impl PlainStore {
     pub fn new(alloc: Global) -> PlainStore
         ensures { result ≡ [] }
@@ -75,7 +84,8 @@ impl PlainStore {
 
     /// The active transaction.
     pub fn active(&self) -> Option<TxnId>
-        ensures { result ≡ active_in self.now }
+        ensures active { result ≡ active_in self.now }
+        ensures lawful { IsLawful self.now }
     {
         self.active
     }
@@ -86,9 +96,29 @@ impl PlainStore {
         Scn(self.commits)
     }
 
+    pub fn row_count(&self) -> u64
+        ensures { result ≡ row_count self.now }
+    {
+        self.rows
+    }
+
+    pub fn transaction_count(&self) -> u64
+        ensures { result ≡ transaction_count self.now }
+    {
+        self.transactions
+    }
+
+    /// Whether a table has that number.
+    pub fn is_there(&self, obj: Obj) -> bool
+        ensures { result ≡ is_there obj self.now }
+    {
+        is_among(&self.catalogue, obj)
+    }
+
     /// The table of that name.
     pub fn table(&self, name: &Name) -> Option<Obj>
-        ensures { result ≡ named name.now self.now }
+        ensures table { result ≡ named name.now self.now }
+        ensures lawful { IsLawful self.now }
     {
         find_named(&self.catalogue, name)
     }
@@ -107,6 +137,15 @@ impl PlainStore {
         view(alloc, &self.records, table, self.active)
     }
 
+    /// The bytes of the records after the first ones.
+    #[tactic(auto, using(crate::proofs::Since::short_since, crate::proofs::Since::spelled_since))]
+    pub fn bytes_since(&self, alloc: Global, stable: usize) -> Result<Vec<u8>, NoMemory>
+        requires { stable ≤ length self.now }
+        ensures { IfOk result (λ bytes. IsSpelledSince stable self.now bytes.items) }
+    {
+        record_bytes(alloc, &self.records.as_slice()[stable..])
+    }
+
     /// Makes a table of a new name.
     #[tactic(auto, using(crate::proofs::Stores::count_reversed, crate::proofs::Stores::row_reversed))]
     pub fn add_table(&mut self, alloc: Global, name: &Name, pctfree: u8) -> Result<(), NoMemory>
@@ -115,6 +154,7 @@ impl PlainStore {
         requires share { pctfree ≤ 50 }
         ensures ok { OnOk result (self.new ≡ made.Table (table_count self.old + 1) name.now pctfree ∷ self.old) }
         ensures err { OnErr result (self.new ≡ self.old) }
+        ensures lawful { IsLawful self.new }
     {
         let obj = Obj(self.catalogue.len() as u8 + 1);
         let row = CatalogueRow {
@@ -139,6 +179,7 @@ impl PlainStore {
         ensures txn { IfOk result (λ txn. txn ≡ transaction_count self.old + 1) }
         ensures ok { OnOk result (self.new ≡ made.Begin (transaction_count self.old + 1) ∷ self.old) }
         ensures err { OnErr result (self.new ≡ self.old) }
+        ensures lawful { IsLawful self.new }
     {
         let txn = TxnId(self.transactions + 1);
         self.records.push(Record::Begin { txn })?;
@@ -158,6 +199,7 @@ impl PlainStore {
         ensures row { IfOk result (λ row. row ≡ row_count self.old + 1) }
         ensures ok { OnOk result (self.new ≡ made.Insert txn obj (row_count self.old + 1) bytes ∷ self.old) }
         ensures err { OnErr result (self.new ≡ self.old) }
+        ensures lawful { IsLawful self.new }
     {
         let row = RowNo(self.rows + 1);
         self.records.push(Record::Insert {
@@ -178,6 +220,7 @@ impl PlainStore {
         ensures number { IfOk result (λ number. number ≡ commit_count self.old + 1) }
         ensures ok { OnOk result (self.new ≡ made.Commit txn (commit_count self.old + 1) ∷ self.old) }
         ensures err { OnErr result (self.new ≡ self.old) }
+        ensures lawful { IsLawful self.new }
     {
         let number = Scn(self.commits + 1);
         self.records.push(Record::Commit { txn, number })?;
@@ -191,6 +234,7 @@ impl PlainStore {
         requires { active_in self.old ≡ Some txn }
         ensures ok { OnOk result (self.new ≡ made.Ended txn ∷ self.old) }
         ensures err { OnErr result (self.new ≡ self.old) }
+        ensures lawful { IsLawful self.new }
     {
         self.records.push(Record::Ended { txn })?;
         self.active = None;

@@ -17,4 +17,4 @@ bind_label-requires c =
 pub invariant_of-self-2 : goal.invariant_of-self-2
 invariant_of-self-2 c =
     let d = c.self.inside in
-    draft_push d.statements.items c.push.new.self.items c.args.statement d.labels c.bind_label.new.labels d.has_table c.is_table.result c.self.invariant c.requires.statement (grind (arith, common_steps)) c.in_ok-bind_label.ensures.ok c.is_table.ensures
+    draft_push d.statements.items c.push.new.self.items c.args.statement d.labels c.bind_label.new.labels c.self.invariant c.requires.statement (grind (arith, common_steps)) c.in_ok-bind_label.ensures.ok

@@ -1,0 +1,41 @@
+use Rattle.std.proofs.Common.{◌≡◌, ℕ, List, [], length, ap, sym, ◌∙◌, subst, refl}
+use Rattle.disk_model.proofs.Going.{untouched_then}
+use Rattle.log_frame.specs.Ready.{IsReady}
+use Rattle.assm.specs.declared.record.Record.{Record}
+use Rattle.assm.specs.Opens.{IsOutside, TakenBack}
+use Rattle.assm.specs.Survives.{IsLive}
+use Rattle.assm.specs.declared.entry.HistoryItem.{HistoryItem}
+use Rattle.assm.proofs.Opened.{outside_of, sound_after, settled_after, log_open, live_opened}
+use Rattle.assm.proofs.opening.open.Goals as goal
+
+pub returns-in-Err-open-clause-opened : goal.returns-in-Err-open-clause-opened
+returns-in-Err-open-clause-opened g c = λ shape R h.
+    let meaning = g.D.Disk.meaning in
+    let untouched = untouched_then meaning c.args.disk.now c.read_shape.new.disk c.check_data.new.disk c.read_shape.ensures.untouched c.check_data.ensures.untouched in
+    let now = sound_after meaning c.args.disk.now c.check_data.new.disk shape R untouched h in
+    subst IsOutside (sym c.from-in-Err-open.ensures) (outside_of c.in-Err-open.fault (λ (end : ℕ). IsReady meaning c.open.new.disk shape now.sound.groups end) (c.in-Err-open.ensures.whole shape [] now.sound.groups (settled_after meaning c.args.disk.now c.check_data.new.disk shape R untouched h) now.sound.log refl))
+
+pub returns-in-Err-read_records-clause-opened : goal.returns-in-Err-read_records-clause-opened
+returns-in-Err-read_records-clause-opened g c = λ shape R h.
+    let meaning = g.D.Disk.meaning in
+    let untouched = untouched_then meaning c.args.disk.now c.read_shape.new.disk c.check_data.new.disk c.read_shape.ensures.untouched c.check_data.ensures.untouched in
+    let now = sound_after meaning c.args.disk.now c.check_data.new.disk shape R untouched h in
+    let log = log_open meaning c.check_data.new.disk c.open.new.disk shape R c.in-Ok-open.log now (c.in-Ok-open.ensures.whole shape [] now.sound.groups (settled_after meaning c.args.disk.now c.check_data.new.disk shape R untouched h) now.sound.log refl) in
+    c.in-Err-read_records.ensures.all shape log.groups R log.ready log.holds h.sound.lawful
+
+pub returns-clause-opened : goal.returns-clause-opened
+returns-clause-opened g c = λ shape R h.
+    let meaning = g.D.Disk.meaning in
+    let d0 = c.args.disk.now in
+    let untouched = untouched_then meaning d0 c.read_shape.new.disk c.check_data.new.disk c.read_shape.ensures.untouched c.check_data.ensures.untouched in
+    let now = sound_after meaning d0 c.check_data.new.disk shape R untouched h in
+    let log = log_open meaning c.check_data.new.disk c.open.new.disk shape R c.in-Ok-open.log now (c.in-Ok-open.ensures.whole shape [] now.sound.groups (settled_after meaning d0 c.check_data.new.disk shape R untouched h) now.sound.log refl) in
+    let read : c.in-Ok-read_records.store ≡ R = c.in-Ok-read_records.ensures.all shape log.groups R log.ready log.holds h.sound.lawful in
+    let taken : TakenBack R c.end_active.new.store = subst (λ (z : List Record). TakenBack z c.end_active.new.store) read c.in-Ok-end_active.ensures.ended in
+    let until = untouched_then meaning d0 c.check_data.new.disk c.open.new.disk untouched c.open.ensures.untouched in
+    let all = untouched_then meaning d0 c.open.new.disk c.read_records.new.disk until c.read_records.ensures.untouched in
+    let live = live_opened meaning d0 c.open.new.disk c.read_records.new.disk shape R c.end_active.new.store c.in-Ok-open.log h log c.read_records.ensures.untouched all taken c.end_active.ensures.lawful in
+    let count : length R ≡ c.stable.inside.0 = sym (c.stable.view_is ∙ c.len.ensures.count ∙ ap length read) in
+    let P : ℕ → Type 0 = λ n. IsLive meaning (meaning.clock d0) shape (length R) c.read_records.new.disk c.in-Ok-open.log n c.end_active.new.store [] in
+    let Q : List HistoryItem → Type 0 = λ T. IsLive meaning (meaning.clock d0) shape (length R) c.read_records.new.disk c.in-Ok-open.log c.stable.inside.0 c.end_active.new.store T in
+    (subst Q (sym c.new.ensures) (subst P count live), taken)

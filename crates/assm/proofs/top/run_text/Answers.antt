@@ -1,0 +1,55 @@
+use Rattle.std.proofs.Common.{List, length, ap, sym, ◌∙◌, subst, Ok, Err}
+use Rattle.assm.specs.declared.statement.Statement.{Statement}
+use Rattle.assm.specs.declared.status.Status.{Status}
+use Rattle.assm.specs.declared.opening.OpenFault.{OpenFault}
+use Rattle.assm.specs.Top.{RunTells}
+use Rattle.assm.proofs.Survival.{live_lasts}
+use Rattle.assm.proofs.Told.{open_tells, part_tells, sound_now}
+use Rattle.assm.proofs.top.run_text.Goals as goal
+
+pub returns-in-Err-open-clause-tells : goal.returns-in-Err-open-clause-tells
+returns-in-Err-open-clause-tells g c =
+    let meaning = g.D.Disk.meaning in
+    let written = g.K.Sink.written c.args.sink.now in
+    subst (λ (s : Status). RunTells meaning c.args.disk.now c.open.new.disk written written s c.args.text.now) (sym c.from-in-Err-open.ensures)
+    (open_tells meaning c.args.disk.now c.open.new.disk written c.args.text.now c.in-Err-open.fault c.open.ensures.untouched c.in-Err-open.ensures.opened (λ e. c.in-Err-open.ensures.made (ap (λ (f : OpenFault). Err f) e)))
+
+pub returns-in-Ok-run-clause-tells : goal.returns-in-Ok-run-clause-tells
+returns-in-Ok-run-clause-tells g c =
+    let meaning = g.D.Disk.meaning in
+    let d0 = c.args.disk.now in
+    let w = c.run.new.world in
+    record {
+      statements = c.deref.result.now;
+      says = c.in-Ok.ensures.read ∙ ap (λ (s : List Statement). Ok s) (sym c.deref.ensures.value);
+      first = c.in-Ok-open.world.store;
+      records = w.store;
+      history = w.history;
+      finished = c.in-Ok-run.ensures.finished;
+      kept = record {
+        taken = λ shape R h. (c.in-Ok-open.ensures.opened shape R h).1;
+        lasts = λ shape R h. live_lasts meaning (meaning.clock d0) shape (length R) w.store w.history c.run.new.disk w.log w.stable (c.in-Ok-run.ensures.live (meaning.clock d0) shape (length R) (c.in-Ok-open.ensures.opened shape R h).0);
+      };
+      stable = λ shape R h image is. sound_now meaning (meaning.clock d0) shape (length R) c.run.new.disk w.log w.stable w.store w.history (c.in-Ok-run.ensures.live (meaning.clock d0) shape (length R) (c.in-Ok-open.ensures.opened shape R h).0) c.in-Ok-run.ensures.stable image is;
+    }
+
+pub returns-clause-tells : goal.returns-clause-tells
+returns-clause-tells g c =
+    let meaning = g.D.Disk.meaning in
+    let d0 = c.args.disk.now in
+    let w = c.run.new.world in
+    let old = g.K.Sink.written c.args.sink.now in
+    let new = g.K.Sink.written c.run.new.sink in
+    subst (λ (s : Status). RunTells meaning d0 c.run.new.disk old new s c.args.text.now) (sym c.from-in-Err-run.ensures)
+    (part_tells meaning d0 c.run.new.disk old new c.args.text.now c.in-Err-run.fault (record {
+      statements = c.deref.result.now;
+      says = c.in-Ok.ensures.read ∙ ap (λ (s : List Statement). Ok s) (sym c.deref.ensures.value);
+      first = c.in-Ok-open.world.store;
+      records = w.store;
+      history = w.history;
+      stopped = c.in-Err-run.ensures.stopped;
+      kept = record {
+        taken = λ shape R h. (c.in-Ok-open.ensures.opened shape R h).1;
+        lasts = λ shape R h. c.in-Err-run.ensures.lasts (meaning.clock d0) shape (length R) (c.in-Ok-open.ensures.opened shape R h).0;
+      };
+    }))

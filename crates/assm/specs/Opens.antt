@@ -1,0 +1,80 @@
+-- Opening a sound store.
+use Rattle.std.specs.Prelude.{◌≡◌, ◌⊎◌, ℕ, ◌≤◌, false, List, [], length, Result, Ok, Err, None}
+use Rattle.seg_base.specs.declared.shape.Shape.{Shape}
+use Rattle.disk_model.specs.Files.{Files}
+use Rattle.disk_model.specs.Crash.{Meaning, Now, Leaves}
+use Rattle.disk_model.specs.declared.disk.File.TheVariants as file
+use Rattle.log_frame.specs.Head.{is_formatted}
+use Rattle.log_frame.specs.declared.fault.FrameFault.{FrameFault}
+use Rattle.log_frame.specs.declared.fault.FrameFault.TheVariants as frame
+use Rattle.assm.specs.declared.record.Record.{Record}
+use Rattle.assm.specs.declared.opening.OpenFault.{OpenFault}
+use Rattle.assm.specs.declared.opening.OpenFault.TheVariants.{DeviceFault, NotFormatted, BadFile, AlreadyFormatted, NoMemory}
+use Rattle.assm.specs.Redo.{active_in}
+use Rattle.assm.specs.Means.{TakesBack}
+use Rattle.assm.specs.Survives.{IsSound}
+
+-- The disk tells what it holds, a crash now would leave just that, and it is a sound store with the records R.
+pub record StartsSound {D : Type 0} (meaning : Meaning D) (disk : D) (shape : Shape) (R : List Record) : Type 0 where
+  pub told : meaning.told disk
+  pub settled : (image : Files) → Now meaning disk image → image ≡ meaning.files disk
+  pub sound : IsSound shape R (meaning.files disk)
+
+abbrev pub fault_of : FrameFault → OpenFault
+fault_of frame.DeviceFault = DeviceFault
+fault_of frame.NotOpen = NotFormatted
+fault_of (frame.BadFrame offset seen) = BadFile file.Log offset seen
+fault_of frame.NoMemory = NoMemory
+
+-- a fault that a sound store may meet
+abbrev pub IsOutside : OpenFault → Type 0
+IsOutside DeviceFault = Unit {0}
+IsOutside NoMemory = Unit {0}
+IsOutside fault = ⊥
+
+-- this holds of the answer, unless the device failed or memory is wanting
+abbrev pub OpensTo : {A : Type 0} → (A → Type 0) → Result A OpenFault → Type 0
+OpensTo P (Ok answer) = P answer
+OpensTo P (Err fault) = IsOutside fault
+
+-- the active transaction of a log is taken back
+abbrev pub TakenBack : List Record → List Record → Type 0
+TakenBack R R' = ((active_in R ≡ None) × (R' ≡ R)) ⊎ TakesBack R R'
+
+abbrev pub IsBadOrMemory : OpenFault → Type 0
+IsBadOrMemory (BadFile which offset seen) = Unit {0}
+IsBadOrMemory NoMemory = Unit {0}
+IsBadOrMemory fault = ⊥
+
+-- The disk tells what it holds, a crash now would leave just that, and its log isn't formatted.
+pub record StartsBlank {D : Type 0} (meaning : Meaning D) (disk : D) : Type 0 where
+  pub told : meaning.told disk
+  pub settled : (image : Files) → Now meaning disk image → image ≡ meaning.files disk
+  pub blank : is_formatted (meaning.files disk).log_bytes ≡ false
+
+-- its log isn't formatted, or it is the empty store of this shape
+abbrev pub BlankOrEmpty : Shape → Files → Type 0
+BlankOrEmpty shape image = (is_formatted image.log_bytes ≡ false) ⊎ IsSound shape [] image
+
+-- each image of a crash now is the empty store of this shape
+pub record IsMade {D : Type 0} (meaning : Meaning D) (disk : D) (shape : Shape) : Type 0 where
+  pub told : meaning.told disk
+  pub each : (image : Files) → Now meaning disk image → IsSound shape [] image
+
+-- what a read gives is all that a crash would leave, its log is this, and its data file has at least so many bytes
+pub record IsFilled {D : Type 0} (meaning : Meaning D) (start disk : D) (log : List ℕ) (n : ℕ) : Type 0 where
+  pub told : meaning.told disk
+  pub settled : (image : Files) → Now meaning disk image → image ≡ meaning.files disk
+  pub log_is : (meaning.files disk).log_bytes ≡ log
+  pub long : n ≤ length (meaning.files disk).data_bytes
+  pub leaves : Leaves meaning start disk (λ (image : Files). image.log_bytes ≡ log)
+
+abbrev pub LeavesLog : {D : Type 0} → Meaning D → D → D → List ℕ → Type 0
+LeavesLog meaning old new log = Leaves meaning old new (λ (image : Files). image.log_bytes ≡ log)
+
+-- a fault that making a store may meet
+abbrev pub IsFormatFault : OpenFault → Type 0
+IsFormatFault DeviceFault = Unit {0}
+IsFormatFault NoMemory = Unit {0}
+IsFormatFault AlreadyFormatted = Unit {0}
+IsFormatFault fault = ⊥

@@ -1,0 +1,32 @@
+-- The words of the command line. This engine's own.
+use Rattle.std.specs.Prelude.{◌≡◌, ℕ, true, if◌then◌else◌, List, [], ◌∷◌, Option, Some, None, codes}
+use Rattle.std.specs.Str.{bytes_eq}
+use Rattle.seg_base.specs.declared.shape.Shape.{Shape}
+use Rattle.seg_base.specs.Places.{is_shape}
+use Rattle.assm.specs.declared.words.Command.{Command}
+use Rattle.assm.specs.declared.words.Command.TheVariants.{Format, Run}
+use Rattle.assm.specs.Bytes.{number_of}
+use Rattle.assm.specs.Script.{◌>>=◌}
+
+-- the shape that three numbers state, where it is within the limits
+abbrev pub shape_in : List ℕ → List ℕ → List ℕ → Option Shape
+shape_in b e u = do
+  blocks ← number_of 16384 b
+  extent ← number_of 64 e
+  undo ← number_of 1024 u
+  if is_shape (record { blocks = blocks; extent = extent; undo = undo }) then Some (record { blocks = blocks; extent = extent; undo = undo }) else None
+
+abbrev pub format_in : Option Shape → Option Command
+format_in None = None
+format_in (Some shape) = Some (Format shape)
+
+-- what the words ask for
+abbrev pub command_in : List (List ℕ) → Option Command
+command_in (word ∷ []) = if bytes_eq word (codes "run") then Some Run else None
+command_in (word ∷ b ∷ e ∷ u ∷ []) = if bytes_eq word (codes "format") then format_in (shape_in b e u) else None
+command_in words = None
+
+-- a shape that is asked for is within the limits
+abbrev pub IsWithin : Command → Type 0
+IsWithin (Format shape) = is_shape shape ≡ true
+IsWithin Run = Unit {0}

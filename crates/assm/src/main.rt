@@ -32,6 +32,7 @@ use disk_host::Host;
 use seg_base::Open;
 use status::Status;
 use std::env::{self, Env};
+use std::fs::{Files, OpenOptions};
 use std::io::ErrorKind;
 use std::process::ExitCode;
 use text_port::{Stdin, Stdout};
@@ -51,7 +52,16 @@ fn own_words<R: Env + AllocGlobal>(rt: &R) -> Result<Vec<String>, Status> {
     }
 }
 
+/// A folder in the place of a standard stream, where it is closed: it can be neither read nor written, while a file of
+/// the store that got the stream's number would be.
+fn hold_place<R: Files>(rt: &R) -> Option<R::File> {
+    let mut how = OpenOptions::new();
+    how.read(true);
+    how.open(rt, "/").ok()
+}
+
 fn main(rt: HostRuntime) -> ExitCode {
+    let _held = [hold_place(&rt), hold_place(&rt), hold_place(&rt)];
     let status = match own_words(&rt) {
         Ok(words) => run_program(
             &rt,

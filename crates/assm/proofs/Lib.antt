@@ -19,6 +19,5 @@ pub mod Flushes
 pub mod Replayed
 pub mod GroupWalk
 pub mod Opened
-pub mod Filling
 pub mod WordsLemmas
 pub mod Told

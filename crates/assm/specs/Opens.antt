@@ -7,6 +7,9 @@ use Rattle.disk_model.specs.declared.disk.File.TheVariants as file
 use Rattle.log_frame.specs.Head.{is_formatted}
 use Rattle.log_frame.specs.declared.fault.FrameFault.{FrameFault}
 use Rattle.log_frame.specs.declared.fault.FrameFault.TheVariants as frame
+use Rattle.recovery.specs.declared.fault.OpenFault.{OpenFault as MakeFault}
+use Rattle.recovery.specs.declared.fault.OpenFault.TheVariants as make
+use Rattle.recovery.specs.Store.{AreZero}
 use Rattle.assm.specs.declared.record.Record.{Record}
 use Rattle.assm.specs.declared.opening.OpenFault.{OpenFault}
 use Rattle.assm.specs.declared.opening.OpenFault.TheVariants.{DeviceFault, NotFormatted, BadFile, AlreadyFormatted, NoMemory}
@@ -52,25 +55,27 @@ pub record StartsBlank {D : Type 0} (meaning : Meaning D) (disk : D) : Type 0 wh
   pub settled : (image : Files) → Now meaning disk image → image ≡ meaning.files disk
   pub blank : is_formatted (meaning.files disk).log_bytes ≡ false
 
+-- The empty store of this shape: sound, without a record, its blocks all zeros.
+pub record IsNew (shape : Shape) (image : Files) : Type 0 where
+  pub sound : IsSound shape [] image
+  pub zeros : AreZero shape image.data_bytes
+
 -- its log isn't formatted, or it is the empty store of this shape
 abbrev pub BlankOrEmpty : Shape → Files → Type 0
-BlankOrEmpty shape image = (is_formatted image.log_bytes ≡ false) ⊎ IsSound shape [] image
+BlankOrEmpty shape image = (is_formatted image.log_bytes ≡ false) ⊎ IsNew shape image
 
 -- each image of a crash now is the empty store of this shape
 pub record IsMade {D : Type 0} (meaning : Meaning D) (disk : D) (shape : Shape) : Type 0 where
   pub told : meaning.told disk
-  pub each : (image : Files) → Now meaning disk image → IsSound shape [] image
+  pub each : (image : Files) → Now meaning disk image → IsNew shape image
 
--- what a read gives is all that a crash would leave, its log is this, and its data file has at least so many bytes
-pub record IsFilled {D : Type 0} (meaning : Meaning D) (start disk : D) (log : List ℕ) (n : ℕ) : Type 0 where
-  pub told : meaning.told disk
-  pub settled : (image : Files) → Now meaning disk image → image ≡ meaning.files disk
-  pub log_is : (meaning.files disk).log_bytes ≡ log
-  pub long : n ≤ length (meaning.files disk).data_bytes
-  pub leaves : Leaves meaning start disk (λ (image : Files). image.log_bytes ≡ log)
-
-abbrev pub LeavesLog : {D : Type 0} → Meaning D → D → D → List ℕ → Type 0
-LeavesLog meaning old new log = Leaves meaning old new (λ (image : Files). image.log_bytes ≡ log)
+-- the same fault of making a store
+abbrev pub made_as : MakeFault → OpenFault
+made_as make.DeviceFault = DeviceFault
+made_as make.NotFormatted = NotFormatted
+made_as (make.BadFile which offset seen) = BadFile which offset seen
+made_as make.AlreadyFormatted = AlreadyFormatted
+made_as make.NoMemory = NoMemory
 
 -- a fault that making a store may meet
 abbrev pub IsFormatFault : OpenFault → Type 0

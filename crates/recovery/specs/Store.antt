@@ -41,6 +41,14 @@ FormatAnswers log_bytes (Err (BadFile file offset seen)) = ⊥
 FormatAnswers log_bytes (Err AlreadyFormatted) = is_formatted log_bytes ≡ true
 FormatAnswers log_bytes (Err NoMemory) = ⊥
 
+-- the faults that making a store may meet
+abbrev pub IsFormatFault : OpenFault → Type 0
+IsFormatFault DeviceFault = Unit {0}
+IsFormatFault NotFormatted = ⊥
+IsFormatFault (BadFile file offset seen) = ⊥
+IsFormatFault AlreadyFormatted = Unit {0}
+IsFormatFault NoMemory = Unit {0}
+
 -- the files of a store of this shape, with these groups in its log
 pub record IsStore (shape : Shape) (groups : List (List ℕ)) (files : Files) : Type 0 where
   pub log : IsLog shape groups files.log_bytes

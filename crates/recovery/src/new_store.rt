@@ -4,7 +4,7 @@ ghost use Rattle.disk_model.specs.Files.{Files, content, written, Torn};
 ghost use Rattle.disk_model.specs.Crash.{Leaves, Causes, Untouched};
 ghost use Rattle.seg_base.specs.Places.{is_shape};
 ghost use Rattle.log_frame.specs.Head.{is_formatted};
-ghost use Rattle.recovery.specs.Store.{FormatAnswers, IsDurable, IsEmptyStore, NoneOrEmpty};
+ghost use Rattle.recovery.specs.Store.{FormatAnswers, IsDurable, IsEmptyStore, IsFormatFault, NoneOrEmpty};
 ghost use Rattle.disk_model.specs.Only.{OnlyFile, IsSettled, IsPut};
 ghost use Rattle.disk_model.specs.declared.disk.File.TheVariants.{Data, Log};
 
@@ -39,6 +39,7 @@ fn write_zeros<D: Disk>(disk: &mut D, total: u64) -> Result<(), Failed>
 // Refuses a log that is formatted.
 fn expect_unformatted<D: Disk>(disk: &mut D) -> Result<(), OpenFault>
     ensures answer { D.meaning.told disk.old → FormatAnswers (D.meaning.files disk.old).log_bytes result }
+    ensures only { IfErr result (λ e. IsFormatFault e) }
     ensures cause { Causes D.meaning disk.old disk.new (IsErrOf result OpenFault.DeviceFault) }
     ensures untouched { Untouched D.meaning disk.old disk.new }
 {
@@ -81,6 +82,7 @@ pub fn format<D: Disk>(disk: &mut D, shape: Shape) -> Result<(), OpenFault>
     ensures any_moment { IsDurable D.meaning disk.old → is_formatted (D.meaning.files disk.old).log_bytes ≡ false
         → Leaves D.meaning disk.old disk.new (NoneOrEmpty shape) }
     ensures made { IsDurable D.meaning disk.old → OnOk result (IsDurable D.meaning disk.new × IsEmptyStore shape (D.meaning.files disk.new)) }
+    ensures only { IfErr result (λ e. IsFormatFault e) }
     ensures refused { IsErrOf result OpenFault.AlreadyFormatted → Untouched D.meaning disk.old disk.new }
     ensures cause { Causes D.meaning disk.old disk.new (IsErrOf result OpenFault.DeviceFault) }
     ensures told { D.meaning.told disk.new ↔ D.meaning.told disk.old }

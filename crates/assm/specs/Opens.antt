@@ -1,8 +1,8 @@
 -- Opening a sound store.
-use Rattle.std.specs.Prelude.{◌≡◌, ◌⊎◌, ℕ, ◌≤◌, false, List, [], length, Result, Ok, Err, None}
+use Rattle.std.specs.Prelude.{◌≡◌, ◌⊎◌, false, List, [], Result, Ok, Err, None}
 use Rattle.seg_base.specs.declared.shape.Shape.{Shape}
 use Rattle.disk_model.specs.Files.{Files}
-use Rattle.disk_model.specs.Crash.{Meaning, Now, Leaves}
+use Rattle.disk_model.specs.Crash.{Meaning, Now}
 use Rattle.disk_model.specs.declared.disk.File.TheVariants as file
 use Rattle.log_frame.specs.Head.{is_formatted}
 use Rattle.log_frame.specs.declared.fault.FrameFault.{FrameFault}

@@ -113,7 +113,11 @@ fn read_records<D: Disk>(
             Err(fault) => return Err(OpenFault::from(fault)),
         };
         if group.next <= at {
-            return Ok(store);
+            return Err(OpenFault::BadFile {
+                file: File::Log,
+                offset: at,
+                seen: 1,
+            });
         }
         match replay_group(alloc, &mut store, group.payload.as_slice()) {
             Ok(()) => at = group.next,

@@ -12,7 +12,7 @@ returns-in-Err-open-clause-tells g c =
     let meaning = g.D.Disk.meaning in
     let written = g.K.Sink.written c.args.sink.now in
     subst (λ (s : Status). RunTells meaning c.args.disk.now c.open.new.disk written written s c.args.text.now) (sym c.from-in-Err-open.ensures)
-    (open_tells meaning c.args.disk.now c.open.new.disk written c.args.text.now c.in-Err-open.fault c.open.ensures.untouched c.in-Err-open.ensures.opened (λ e. c.in-Err-open.ensures.made (ap (λ (f : OpenFault). Err f) e)))
+    (open_tells meaning c.args.disk.now c.open.new.disk written c.args.text.now c.in-Err-open.fault c.open.ensures.untouched c.in-Err-open.ensures.opened (λ e. c.in-Err-open.ensures.not_formatted (ap (λ (f : OpenFault). Err f) e)) (λ e. c.in-Err-open.ensures.made (ap (λ (f : OpenFault). Err f) e)))
 
 pub returns-in-Ok-run-clause-tells : goal.returns-in-Ok-run-clause-tells
 returns-in-Ok-run-clause-tells g c =

@@ -1,3 +1,0 @@
-pub mod AsRead
-pub mod Going
-pub mod Once

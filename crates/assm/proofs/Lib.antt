@@ -20,4 +20,5 @@ pub mod Replayed
 pub mod GroupWalk
 pub mod Opened
 pub mod WordsLemmas
+pub mod HeadLemmas
 pub mod Told

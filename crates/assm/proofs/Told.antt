@@ -1,9 +1,8 @@
 -- What the top call tells.
-use Rattle.std.proofs.Common.{◌≡◌, ℕ, List, [], length, false, refl, ap, sym, ◌∙◌, inl, inr, subst, Option}
+use Rattle.std.proofs.Common.{◌≡◌, ℕ, List, [], length, refl, ap, sym, ◌∙◌, inl, inr, subst, Option}
 use Rattle.seg_base.specs.declared.shape.Shape.{Shape}
 use Rattle.disk_model.specs.Files.{Files}
 use Rattle.disk_model.specs.Crash.{Meaning, Now, Untouched}
-use Rattle.log_frame.specs.Head.{is_formatted}
 use Rattle.log_frame.specs.Spelling.{IsLog}
 use Rattle.assm.specs.declared.record.Record.{Record}
 use Rattle.assm.specs.declared.entry.HistoryItem.{HistoryItem}
@@ -22,12 +21,12 @@ use Rattle.assm.specs.Top.{RanPart, RunTells, ScriptTells, FormatTells, HadScrip
 use Rattle.assm.proofs.Histories.{prefix_all}
 
 module _ {D : Type 0} (meaning : Meaning D) where
-  pub open_tells : (disk disk' : D) (old : Option (List ℕ)) (script : List ℕ) (fault : OpenFault) → Untouched meaning disk disk' → ((shape : Shape) (R : List Record) → StartsSound meaning disk shape R → IsOutside fault) → (fault ≡ opening.NotFormatted → meaning.told disk → is_formatted (meaning.files disk).log_bytes ≡ false) → (fault ≡ opening.AlreadyFormatted → ⊥) → RunTells meaning disk disk' old old (status_of_open fault) script
-  open_tells disk disk' old script opening.DeviceFault untouched outside blank made = inl (record { printed = refl; untouched = untouched })
-  open_tells disk disk' old script opening.NotFormatted untouched outside blank made = (record { printed = refl; untouched = untouched }, outside, blank refl)
-  open_tells disk disk' old script (opening.BadFile which offset seen) untouched outside blank made = (record { printed = refl; untouched = untouched }, outside)
-  open_tells disk disk' old script opening.AlreadyFormatted untouched outside blank made = absurd (made refl)
-  open_tells disk disk' old script opening.NoMemory untouched outside blank made = inl (record { printed = refl; untouched = untouched })
+  pub open_tells : (disk disk' : D) (old : Option (List ℕ)) (script : List ℕ) (fault : OpenFault) → Untouched meaning disk disk' → ((shape : Shape) (R : List Record) → StartsSound meaning disk shape R → IsOutside fault) → (fault ≡ opening.AlreadyFormatted → ⊥) → RunTells meaning disk disk' old old (status_of_open fault) script
+  open_tells disk disk' old script opening.DeviceFault untouched outside made = inl (record { printed = refl; untouched = untouched })
+  open_tells disk disk' old script opening.NotFormatted untouched outside made = (record { printed = refl; untouched = untouched }, outside)
+  open_tells disk disk' old script (opening.BadFile which offset seen) untouched outside made = (record { printed = refl; untouched = untouched }, outside)
+  open_tells disk disk' old script opening.AlreadyFormatted untouched outside made = absurd (made refl)
+  open_tells disk disk' old script opening.NoMemory untouched outside made = inl (record { printed = refl; untouched = untouched })
 
   pub part_tells : (disk disk' : D) (old new : Option (List ℕ)) (script : List ℕ) (fault : RunFault) → RanPart meaning disk disk' old new script → RunTells meaning disk disk' old new (status_of_run fault) script
   part_tells disk disk' old new script run.NoMemory part = inr part

@@ -17,6 +17,7 @@ pub mod Replaying
 pub mod Survives
 pub mod Live
 pub mod Opens
+pub mod Heads
 pub mod Worked
 pub mod Status
 pub mod Words

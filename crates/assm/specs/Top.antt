@@ -1,5 +1,5 @@
 -- What the top call promises.
-use Rattle.std.specs.Prelude.{◌≡◌, ◌⊎◌, ℕ, ◌+◌, ◌-◌, ◌/◌, ◌^◌, ◌≤◌, true, false, List, ◌++◌, length, Option, Ok, Err, codes}
+use Rattle.std.specs.Prelude.{◌≡◌, ◌⊎◌, ℕ, ◌+◌, ◌-◌, ◌/◌, ◌^◌, ◌≤◌, true, List, ◌++◌, length, Option, Ok, Err, codes}
 use Rattle.std.specs.Fmt.{decimal}
 use Rattle.std.specs.Io.KnownBytes.{Appends}
 use Rattle.seg_base.specs.declared.shape.Shape.{Shape}
@@ -76,7 +76,7 @@ module _ {D : Type 0} (meaning : Meaning D) (disk disk' : D) (old new : Option (
   RunTells NoMemory script = NothingRan ⊎ RanPart script
   RunTells (BadScript line why) script = IsRefused line script × NothingRan
   RunTells (BadFile which offset seen) script = NothingRan × NeverSound
-  RunTells NotFormatted script = NothingRan × NeverSound × (meaning.told disk → is_formatted (meaning.files disk).log_bytes ≡ false)
+  RunTells NotFormatted script = NothingRan × NeverSound
   RunTells status script = ⊥
 
   -- what a status of `run` says
@@ -95,16 +95,10 @@ module _ {D : Type 0} (meaning : Meaning D) (disk disk' : D) (old new : Option (
   abbrev pub MakesOrNot : Type 0
   MakesOrNot = StartsBlank meaning disk → Leaves meaning disk disk' (BlankOrEmpty shape)
 
-  -- The empty store was made, over a log that wasn't formatted.
-  pub record Made : Type 0 where
-    pub over : meaning.told disk → is_formatted (meaning.files disk).log_bytes ≡ false
-    pub moments : MakesOrNot
-    pub whole : StartsBlank meaning disk → IsMade meaning disk' shape
-
   -- what a status of `format` says
   abbrev pub FormatTells : Status → Type 0
-  FormatTells Done = Appends old new (shape_text shape) × Made
-  FormatTells WriteFault = AppendsPrefix old new (shape_text shape) × Made
+  FormatTells Done = Appends old new (shape_text shape) × MakesOrNot × (StartsBlank meaning disk → IsMade meaning disk' shape)
+  FormatTells WriteFault = AppendsPrefix old new (shape_text shape) × MakesOrNot × (StartsBlank meaning disk → IsMade meaning disk' shape)
   FormatTells AlreadyFormatted = (new ≡ old) × Untouched meaning disk disk' × (meaning.told disk → is_formatted (meaning.files disk).log_bytes ≡ true)
   FormatTells DeviceFault = (new ≡ old) × MakesOrNot
   FormatTells NoMemory = (new ≡ old) × MakesOrNot

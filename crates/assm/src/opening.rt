@@ -6,6 +6,7 @@ ghost use Rattle.log_frame.specs.Head.{is_formatted};
 ghost use Rattle.log_frame.specs.Ready.{IsReady};
 ghost use Rattle.assm.specs.declared.record.Record.{Record};
 ghost use Rattle.assm.specs.Opens.{StartsSound, fault_of, OpensTo, TakenBack, IsBadOrMemory};
+ghost use Rattle.assm.specs.Heads.{TellsHead};
 ghost use Rattle.assm.specs.Lawful.{IsLawful};
 ghost use Rattle.assm.specs.Live.{Live};
 ghost use Rattle.assm.specs.Survives.{Holds, has_blocks};
@@ -112,6 +113,7 @@ fn read_records<D: Disk>(
             Ok(None) => return Ok(store),
             Err(fault) => return Err(OpenFault::from(fault)),
         };
+        // log_frame never gives it: the next gate stands after this one
         if group.next <= at {
             return Err(OpenFault::BadFile {
                 file: File::Log,
@@ -151,7 +153,7 @@ pub fn open<D: Disk>(alloc: Global, disk: &mut D) -> Result<World, OpenFault>
     ensures within { IfOk result (λ world. world.stable ≤ length world.store) }
     ensures cause { Causes D.meaning disk.old disk.new (IsErrOf result OpenFault.DeviceFault) }
     ensures untouched { Untouched D.meaning disk.old disk.new }
-    ensures not_formatted { IsErrOf result OpenFault.NotFormatted → D.meaning.told disk.old → is_formatted (D.meaning.files disk.old).log_bytes ≡ false }
+    ensures head { D.meaning.told disk.old → TellsHead (is_formatted (D.meaning.files disk.old).log_bytes) result }
     ensures made { IsErrOf result OpenFault.AlreadyFormatted → ⊥ }
 {
     let shape = match read_shape(disk) {

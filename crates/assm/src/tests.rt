@@ -287,7 +287,7 @@ fn printed_commits_survive_each_stop(rt: HostRuntime) -> Result<(), Fail> {
             assert_eq!(rt; scan.status, Status::Done);
             let kept = count(scan.sink.bytes(), b"\n  ");
             assert!(rt; kept >= printed, "after {writes} writes");
-            assert!(rt; kept.saturating_sub(printed) <= 1, "after {writes} writes");
+            assert!(rt; kept.saturating_sub(1) <= printed, "after {writes} writes");
         }
     }
     Ok(())

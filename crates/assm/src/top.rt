@@ -8,6 +8,8 @@ ghost use Rattle.assm.specs.declared.words.Command.TheVariants as asked;
 ghost use Rattle.assm.specs.Words.{command_in};
 ghost use Rattle.seg_base.specs.Faults.{Rose};
 ghost use Rattle.disk_model.specs.Crash.{Causes};
+ghost use Rattle.log_frame.specs.Head.{is_formatted};
+ghost use Rattle.assm.specs.Heads.{HeadOfRun, HeadOfFormat};
 ghost use Rattle.assm.specs.Top.{RunTells, ScriptTells, FormatTells, HadScript, IsRefused, shape_text};
 
 use crate::bytes::{put, put_number};
@@ -33,6 +35,7 @@ fn run_text<D: Disk, K: Sink>(alloc: Global, disk: &mut D, text: &[u8], sink: &m
     ensures tells { RunTells D.meaning disk.old disk.new (K.written sink.old) (K.written sink.new) result text.now }
     ensures device_fault { Causes D.meaning disk.old disk.new (result ≡ Status.DeviceFault) }
     ensures write_fault { result ≡ Status.WriteFault → Rose (K.fault_count sink.old) (K.fault_count sink.new) }
+    ensures head { D.meaning.told disk.old → HeadOfRun (is_formatted (D.meaning.files disk.old).log_bytes) result }
 {
     let script = match parse(alloc, text) {
         Ok(script) => script,
@@ -60,6 +63,7 @@ fn run_source<D: Disk, S: Source, K: Sink>(
     ensures script_too_long { result ≡ Status.ScriptTooLong → WasLonger (S.left source.old) (2 ^ 24) }
     ensures device_fault { Causes D.meaning disk.old disk.new (result ≡ Status.DeviceFault) }
     ensures write_fault { result ≡ Status.WriteFault → Rose (K.fault_count sink.old) (K.fault_count sink.new) }
+    ensures head { D.meaning.told disk.old → HeadOfRun (is_formatted (D.meaning.files disk.old).log_bytes) result }
 {
     match read_all(alloc, source, MOST) {
         Ok(text) => run_text(alloc, disk, &text, sink),
@@ -105,6 +109,7 @@ fn format_store<D: Disk, K: Sink>(
     ensures tells { FormatTells D.meaning disk.old disk.new (K.written sink.old) (K.written sink.new) shape.now result }
     ensures device_fault { Causes D.meaning disk.old disk.new (result ≡ Status.DeviceFault) }
     ensures write_fault { result ≡ Status.WriteFault → Rose (K.fault_count sink.old) (K.fault_count sink.new) }
+    ensures head { D.meaning.told disk.old → HeadOfFormat (is_formatted (D.meaning.files disk.old).log_bytes) result }
 {
     let Ok(text) = shape_line(alloc, shape) else {
         return Status::NoMemory;
@@ -138,6 +143,8 @@ pub fn script_command<R: Threads + Sync, D: Disk, S: Source, K: Sink>(
     ensures refused { result ≡ Status.BadWords → (disk.new ≡ disk.old) × (K.written sink.new ≡ K.written sink.old) }
     ensures run { command_in (map string_bytes words.now) ≡ Some asked.Run → ScriptTells D.meaning disk.old disk.new (K.written sink.old) (K.written sink.new) (S.left source.old) result }
     ensures format { (shape : TheShape) → command_in (map string_bytes words.now) ≡ Some (asked.Format shape) → FormatTells D.meaning disk.old disk.new (K.written sink.old) (K.written sink.new) shape result }
+    ensures head_of_run { command_in (map string_bytes words.now) ≡ Some asked.Run → D.meaning.told disk.old → HeadOfRun (is_formatted (D.meaning.files disk.old).log_bytes) result }
+    ensures head_of_format { (shape : TheShape) → command_in (map string_bytes words.now) ≡ Some (asked.Format shape) → D.meaning.told disk.old → HeadOfFormat (is_formatted (D.meaning.files disk.old).log_bytes) result }
 {
     match command_in(words) {
         None => Status::BadWords,
@@ -165,6 +172,8 @@ pub fn run_program<R: Threads + Wait + Sync, D: Disk + Send, S: Source, K: Sink 
     ensures refused { result ≡ Status.BadWords → (disk.new ≡ disk.old) × (K.written sink.new ≡ K.written sink.old) }
     ensures run { command_in (map string_bytes words.now) ≡ Some asked.Run → ScriptTells D.meaning disk.old disk.new (K.written sink.old) (K.written sink.new) (S.left source.old) result }
     ensures format { (shape : TheShape) → command_in (map string_bytes words.now) ≡ Some (asked.Format shape) → FormatTells D.meaning disk.old disk.new (K.written sink.old) (K.written sink.new) shape result }
+    ensures head_of_run { command_in (map string_bytes words.now) ≡ Some asked.Run → D.meaning.told disk.old → HeadOfRun (is_formatted (D.meaning.files disk.old).log_bytes) result }
+    ensures head_of_format { (shape : TheShape) → command_in (map string_bytes words.now) ≡ Some (asked.Format shape) → D.meaning.told disk.old → HeadOfFormat (is_formatted (D.meaning.files disk.old).log_bytes) result }
 {
     script_command(rt, alloc, words, disk, source, sink)
 }

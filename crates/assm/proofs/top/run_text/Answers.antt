@@ -2,7 +2,10 @@ use Rattle.std.proofs.Common.{List, length, ap, sym, ◌∙◌, subst, Ok, Err}
 use Rattle.assm.specs.declared.statement.Statement.{Statement}
 use Rattle.assm.specs.declared.status.Status.{Status}
 use Rattle.assm.specs.declared.opening.OpenFault.{OpenFault}
+use Rattle.log_frame.specs.Head.{is_formatted}
+use Rattle.assm.specs.Heads.{HeadOfRun}
 use Rattle.assm.specs.Top.{RunTells}
+use Rattle.assm.proofs.HeadLemmas.{open_head, run_head}
 use Rattle.assm.proofs.Survival.{live_lasts}
 use Rattle.assm.proofs.Told.{open_tells, part_tells, sound_now}
 use Rattle.assm.proofs.top.run_text.Goals as goal
@@ -12,7 +15,7 @@ returns-in-Err-open-clause-tells g c =
     let meaning = g.D.Disk.meaning in
     let written = g.K.Sink.written c.args.sink.now in
     subst (λ (s : Status). RunTells meaning c.args.disk.now c.open.new.disk written written s c.args.text.now) (sym c.from-in-Err-open.ensures)
-    (open_tells meaning c.args.disk.now c.open.new.disk written c.args.text.now c.in-Err-open.fault c.open.ensures.untouched c.in-Err-open.ensures.opened (λ e. c.in-Err-open.ensures.not_formatted (ap (λ (f : OpenFault). Err f) e)) (λ e. c.in-Err-open.ensures.made (ap (λ (f : OpenFault). Err f) e)))
+    (open_tells meaning c.args.disk.now c.open.new.disk written c.args.text.now c.in-Err-open.fault c.open.ensures.untouched c.in-Err-open.ensures.opened (λ e. c.in-Err-open.ensures.made (ap (λ (f : OpenFault). Err f) e)))
 
 pub returns-in-Ok-run-clause-tells : goal.returns-in-Ok-run-clause-tells
 returns-in-Ok-run-clause-tells g c =
@@ -53,3 +56,16 @@ returns-clause-tells g c =
         lasts = λ shape R h. c.in-Err-run.ensures.lasts (meaning.clock d0) shape (length R) (c.in-Ok-open.ensures.opened shape R h).0;
       };
     }))
+
+pub returns-in-Err-open-clause-head : goal.returns-in-Err-open-clause-head
+returns-in-Err-open-clause-head g c = λ told.
+    let formatted = is_formatted (g.D.Disk.meaning.files c.args.disk.now).log_bytes in
+    subst (λ (s : Status). HeadOfRun formatted s) (sym c.from-in-Err-open.ensures) (open_head formatted c.in-Err-open.fault (c.in-Err-open.ensures.head told))
+
+pub returns-in-Ok-run-clause-head : goal.returns-in-Ok-run-clause-head
+returns-in-Ok-run-clause-head g c = λ told. c.in-Ok-open.ensures.head told
+
+pub returns-clause-head : goal.returns-clause-head
+returns-clause-head g c = λ told.
+    let formatted = is_formatted (g.D.Disk.meaning.files c.args.disk.now).log_bytes in
+    subst (λ (s : Status). HeadOfRun formatted s) (sym c.from-in-Err-run.ensures) (run_head formatted c.in-Err-run.fault (c.in-Ok-open.ensures.head told))

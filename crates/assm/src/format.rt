@@ -32,6 +32,7 @@ pub fn format<D: Disk>(disk: &mut D, shape: &Shape) -> Result<(), OpenFault>
     ensures made { StartsBlank D.meaning disk.old → OnOk result (IsMade D.meaning disk.new shape.now) }
     ensures blank { D.meaning.told disk.old → OnOk result (is_formatted (D.meaning.files disk.old).log_bytes ≡ false) }
     ensures already { D.meaning.told disk.old → IsErrOf result OpenFault.AlreadyFormatted → is_formatted (D.meaning.files disk.old).log_bytes ≡ true }
+    ensures kept { D.meaning.told disk.old → is_formatted (D.meaning.files disk.old).log_bytes ≡ true → Untouched D.meaning disk.old disk.new }
     ensures nothing { IsErrOf result OpenFault.AlreadyFormatted → Untouched D.meaning disk.old disk.new }
     ensures only { IfErr result (λ fault. IsFormatFault fault) }
     ensures cause { Causes D.meaning disk.old disk.new (IsErrOf result OpenFault.DeviceFault) }

@@ -7,7 +7,7 @@ ghost use Rattle.assm.specs.declared.script.Why.{Why};
 ghost use Rattle.assm.specs.declared.words.Command.TheVariants as asked;
 ghost use Rattle.assm.specs.Words.{command_in};
 ghost use Rattle.seg_base.specs.Faults.{Rose};
-ghost use Rattle.disk_model.specs.Crash.{Causes};
+ghost use Rattle.disk_model.specs.Crash.{Causes, Untouched};
 ghost use Rattle.log_frame.specs.Head.{is_formatted};
 ghost use Rattle.assm.specs.Heads.{HeadOfRun, HeadOfFormat};
 ghost use Rattle.assm.specs.Top.{RunTells, ScriptTells, FormatTells, HadScript, IsRefused, shape_text};
@@ -110,6 +110,7 @@ fn format_store<D: Disk, K: Sink>(
     ensures device_fault { Causes D.meaning disk.old disk.new (result ≡ Status.DeviceFault) }
     ensures write_fault { result ≡ Status.WriteFault → Rose (K.fault_count sink.old) (K.fault_count sink.new) }
     ensures head { D.meaning.told disk.old → HeadOfFormat (is_formatted (D.meaning.files disk.old).log_bytes) result }
+    ensures kept { D.meaning.told disk.old → is_formatted (D.meaning.files disk.old).log_bytes ≡ true → Untouched D.meaning disk.old disk.new }
 {
     let Ok(text) = shape_line(alloc, shape) else {
         return Status::NoMemory;
@@ -145,6 +146,7 @@ pub fn script_command<R: Threads + Sync, D: Disk, S: Source, K: Sink>(
     ensures format { (shape : TheShape) → command_in (map string_bytes words.now) ≡ Some (asked.Format shape) → FormatTells D.meaning disk.old disk.new (K.written sink.old) (K.written sink.new) shape result }
     ensures head_of_run { command_in (map string_bytes words.now) ≡ Some asked.Run → D.meaning.told disk.old → HeadOfRun (is_formatted (D.meaning.files disk.old).log_bytes) result }
     ensures head_of_format { (shape : TheShape) → command_in (map string_bytes words.now) ≡ Some (asked.Format shape) → D.meaning.told disk.old → HeadOfFormat (is_formatted (D.meaning.files disk.old).log_bytes) result }
+    ensures store_kept { (shape : TheShape) → command_in (map string_bytes words.now) ≡ Some (asked.Format shape) → D.meaning.told disk.old → is_formatted (D.meaning.files disk.old).log_bytes ≡ true → Untouched D.meaning disk.old disk.new }
 {
     match command_in(words) {
         None => Status::BadWords,
@@ -174,6 +176,7 @@ pub fn run_program<R: Threads + Wait + Sync, D: Disk + Send, S: Source, K: Sink 
     ensures format { (shape : TheShape) → command_in (map string_bytes words.now) ≡ Some (asked.Format shape) → FormatTells D.meaning disk.old disk.new (K.written sink.old) (K.written sink.new) shape result }
     ensures head_of_run { command_in (map string_bytes words.now) ≡ Some asked.Run → D.meaning.told disk.old → HeadOfRun (is_formatted (D.meaning.files disk.old).log_bytes) result }
     ensures head_of_format { (shape : TheShape) → command_in (map string_bytes words.now) ≡ Some (asked.Format shape) → D.meaning.told disk.old → HeadOfFormat (is_formatted (D.meaning.files disk.old).log_bytes) result }
+    ensures store_kept { (shape : TheShape) → command_in (map string_bytes words.now) ≡ Some (asked.Format shape) → D.meaning.told disk.old → is_formatted (D.meaning.files disk.old).log_bytes ≡ true → Untouched D.meaning disk.old disk.new }
 {
     script_command(rt, alloc, words, disk, source, sink)
 }

@@ -84,6 +84,7 @@ pub fn format<D: Disk>(disk: &mut D, shape: Shape) -> Result<(), OpenFault>
     ensures made { IsDurable D.meaning disk.old → OnOk result (IsDurable D.meaning disk.new × IsEmptyStore shape (D.meaning.files disk.new)) }
     ensures only { IfErr result (λ e. IsFormatFault e) }
     ensures refused { IsErrOf result OpenFault.AlreadyFormatted → Untouched D.meaning disk.old disk.new }
+    ensures kept { D.meaning.told disk.old → is_formatted (D.meaning.files disk.old).log_bytes ≡ true → Untouched D.meaning disk.old disk.new }
     ensures cause { Causes D.meaning disk.old disk.new (IsErrOf result OpenFault.DeviceFault) }
     ensures told { D.meaning.told disk.new ↔ D.meaning.told disk.old }
 {

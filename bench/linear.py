@@ -3,12 +3,13 @@
 
     bench/linear.py PROGRAM
 
-Each line is one kind of script, run at a size and at twice that size in fresh folders, and the ratio of the two times:
-about 2 where time is linear. Sizes are such that starting the program counts for little. Where `strace` is installed,
-the last line counts the syncs that a commit takes through the real files. Nothing here is a test: a busy machine gives
-other ratios.
+Each line is one kind of script, run at a size and at twice that size in fresh folders, with the processor time and the
+time on the clock of each, and the ratio of the two processor times: about 2 where the work is linear. The clock also has
+the waiting for the disk, and for other processes. Sizes are such that starting the program counts for little. Where
+`strace` is installed, the last line counts the syncs that a commit takes through the real files. Nothing here is a test.
 """
 import os
+import resource
 import shutil
 import subprocess
 import sys
@@ -37,12 +38,19 @@ def fresh(program):
     return folder
 
 
+def worked():
+    """The processor time of the processes that have ended."""
+    used = resource.getrusage(resource.RUSAGE_CHILDREN)
+    return used.ru_utime + used.ru_stime
+
+
 def seconds(program, text):
+    """The processor time and the time on the clock of a run."""
     folder = fresh(program)
     try:
-        start = time.perf_counter()
+        before, start = worked(), time.perf_counter()
         done = subprocess.run([program, "run"], input=text, cwd=folder, capture_output=True, check=False)
-        taken = time.perf_counter() - start
+        taken = worked() - before, time.perf_counter() - start
         if done.returncode != 0:
             sys.exit(f"status {done.returncode}: {done.stderr.decode()}")
         return taken
@@ -52,7 +60,8 @@ def seconds(program, text):
 
 def ratio(program, name, make, size):
     small, large = seconds(program, make(size)), seconds(program, make(2 * size))
-    print(f"{name}: {size} in {small:.2f} s, {2 * size} in {large:.2f} s, ratio {large / small:.2f}")
+    times = ", ".join(f"{count} in {cpu:.2f} s ({clock:.2f} s on the clock)" for count, (cpu, clock) in ((size, small), (2 * size, large)))
+    print(f"{name}: {times}, ratio {large[0] / small[0]:.2f}")
 
 
 def syncs(program, count):

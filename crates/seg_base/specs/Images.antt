@@ -50,6 +50,14 @@ link_or_zeros (Some r) = r
 abbrev pub undo_bytes : UndoAddr → List ℕ
 undo_bytes a = to_be_bytes w32 a.block ++ (to_be_bytes w64 a.seq ++ (a.nth ∷ []))
 
+-- a place in 5 bytes
+abbrev pub link_bytes : Rowid → List ℕ
+link_bytes r = to_be_bytes w32 r.dba ++ (r.slot ∷ [])
+
+-- how long a slot's row is, and its room, in 4 bytes
+abbrev pub sizes_bytes : Slot → List ℕ
+sizes_bytes s = to_be_bytes w16 (length s.bytes) ++ to_be_bytes w16 s.room
+
 -- the slot's 40 bytes
 abbrev pub slot_bytes : Slot → List ℕ
 slot_bytes s =

@@ -3,6 +3,7 @@
 -- `ended` tells which transactions have ended.
 use Rattle.std.specs.Prelude.{ℕ, ◌+◌, ◌-◌, ◌*◌, Bool, true, false, ◌&&◌, ◌||◌, ◌==◌, nat_lt, nat_le, if◌then◌else◌, max, length, slice_index_or, Option, Some, None, option_map}
 use Rattle.std.specs.List.{sum_by, position_or_len}
+use Rattle.seg_base.specs.declared.limit.TheConstants.{BLOCK_ROOM, SLOT_SIZE, MOST_SLOTS, LIST_ENTRY_SIZE, LEAST_LIST_ENTRIES, MOST_LIST_ENTRIES}
 use Rattle.seg_base.specs.declared.slot.Slot.{Slot}
 use Rattle.seg_base.specs.declared.slot.Kind.{Kind}
 use Rattle.seg_base.specs.declared.slot.Kind.TheVariants.{Empty, Row, Head, Body}
@@ -25,18 +26,18 @@ abbrev pub row_size : (ℕ → Bool) → Slot → ℕ
 row_size ended s = if writer_has_ended ended s.writer then length s.bytes else s.room
 
 abbrev pub slot_size : (ℕ → Bool) → Slot → ℕ
-slot_size ended s = 40 + row_size ended s
+slot_size ended s = SLOT_SIZE + row_size ended s
 
 -- the room of the image that an active writer puts over the slot s with so long a row
 abbrev pub next_room : (ℕ → Bool) → Slot → ℕ → ℕ
 next_room ended s len = max (row_size ended s) len
 
--- what the slots count, and 24 for each list entry past the second
+-- what the slots count, and an entry's bytes for each list entry past the second
 abbrev pub used_of : (ℕ → Bool) → Block → ℕ
-used_of ended b = sum_by (slot_size ended) b.slots + 24 * (length b.entries - 2)
+used_of ended b = sum_by (slot_size ended) b.slots + LIST_ENTRY_SIZE * (length b.entries - LEAST_LIST_ENTRIES)
 
 abbrev pub free_of : (ℕ → Bool) → Block → ℕ
-free_of ended b = 4032 - used_of ended b
+free_of ended b = BLOCK_ROOM - used_of ended b
 
 abbrev pub class_of_block : (ℕ → Bool) → ℕ → Block → Class
 class_of_block ended pctfree b = class_of (free_of ended b) pctfree
@@ -62,9 +63,9 @@ names t e = e.txn == t
 abbrev pub is_spare : (ℕ → Bool) → ListEntry → Bool
 is_spare ended e = e.txn == 0 || ended e.txn
 
--- a new entry, where fewer than 8 are there and 24 bytes are free
+-- a new entry, where there are fewer than the most and its bytes are free
 abbrev pub made_entry : (ℕ → Bool) → Block → Option ℕ
-made_entry ended b = if nat_lt (length b.entries) 8 && nat_le 24 (free_of ended b) then Some (length b.entries) else None
+made_entry ended b = if nat_lt (length b.entries) MOST_LIST_ENTRIES && nat_le LIST_ENTRY_SIZE (free_of ended b) then Some (length b.entries) else None
 
 -- the least spare entry, else a new one
 abbrev pub other_entry : (ℕ → Bool) → Block → Option ℕ
@@ -79,7 +80,7 @@ entry_for ended b t =
     else other_entry ended b
 
 abbrev pub entry_size : Block → ℕ → ℕ
-entry_size b i = if nat_lt i (length b.entries) then 0 else 24
+entry_size b i = if nat_lt i (length b.entries) then 0 else LIST_ENTRY_SIZE
 
 -- what a taker needs for its list entry, None where none can be had; a transaction that has not begun has none yet
 abbrev pub entry_need : (ℕ → Bool) → Block → Taker → Option ℕ
@@ -89,16 +90,16 @@ entry_need ended b Shrink = Some 0
 
 -- a new slot, where none is reusable
 abbrev pub slot_need : (ℕ → Bool) → Block → ℕ
-slot_need ended b = if nat_lt (slot_to_use ended b) (length b.slots) then 0 else 40
+slot_need ended b = if nat_lt (slot_to_use ended b) (length b.slots) then 0 else SLOT_SIZE
 
 -- need bytes can be had, and PCTFREE is left free
 abbrev pub has_room : ℕ → ℕ → ℕ → Bool
-has_room pctfree free need = nat_le need free && nat_le (pctfree * 4032) ((free - need) * 100)
+has_room pctfree free need = nat_le need free && nat_le (pctfree * BLOCK_ROOM) ((free - need) * 100)
 
 abbrev pub takes_beside : (ℕ → Bool) → ℕ → Block → ℕ → Option ℕ → Bool
 takes_beside ended pctfree b len None = false
 takes_beside ended pctfree b len (Some entry) =
-    nat_lt (slot_to_use ended b) 100 && has_room pctfree (free_of ended b) (len + slot_need ended b + entry)
+    nat_lt (slot_to_use ended b) MOST_SLOTS && has_room pctfree (free_of ended b) (len + slot_need ended b + entry)
 
 -- the block takes a row of this length
 abbrev pub takes : (ℕ → Bool) → ℕ → Block → ℕ → Taker → Bool

@@ -2,6 +2,8 @@
 ghost use Rattle.std.specs.Prelude.{◌≡◌, ◌≤◌};
 ghost use Rattle.seg_base.specs.Classes.{class_of, class_code, class_from};
 
+use crate::limit::{BLOCK_ROOM, MOST_PCTFREE};
+
 /// A block's free class: unformatted, full, or a quarter of free space, Fs1 for 0 to 25 % up to Fs4.
 #[derive(Clone, Copy, Debug, PartialEq, Eq, Drop)]
 pub enum Class {
@@ -13,17 +15,17 @@ pub enum Class {
     Fs4,
 }
 
-/// The class of a formatted block with so many of its 4,032 bytes free, in a table with this PCTFREE.
+/// The class of a formatted block with so many bytes of its room free, in a table with this PCTFREE.
 pub fn class_of(free: u16, pctfree: u8) -> Class
-    requires free { free ≤ 4032 }
-    requires pctfree { pctfree ≤ 50 }
+    requires free { free ≤ BLOCK_ROOM }
+    requires pctfree { pctfree ≤ MOST_PCTFREE }
     ensures { result ≡ class_of free pctfree }
 {
     let free = u32::from(free);
-    if free * 100 < u32::from(pctfree) * 4032 {
+    if free * 100 < u32::from(pctfree) * BLOCK_ROOM {
         return Class::Full;
     }
-    match 4 * free / 4032 {
+    match 4 * free / BLOCK_ROOM {
         0 => Class::Fs1,
         1 => Class::Fs2,
         2 => Class::Fs3,

@@ -1,7 +1,7 @@
 // Number fields, unsigned and big-endian.
 ghost use Rattle.std.specs.Prelude.{◌≡◌, ℕ, ◌+◌, ◌^◌, ◌<◌, ◌≤◌, ◌++◌, List, length, IfOk, OnErr, OnOk, MatchOption};
 ghost use Rattle.std.specs.Int.{w16, w32, w64, to_be_bytes};
-ghost use Rattle.seg_base.specs.Fields.{number_in};
+ghost use Rattle.seg_base.specs.Fields.{number_in, put_at};
 
 use crate::NoMemory;
 
@@ -30,6 +30,14 @@ pub fn put_u64(out: &mut Vec<u8>, v: u64) -> Result<(), NoMemory>
 {
     out.extend_from_slice(&v.to_be_bytes())?;
     Ok(())
+}
+
+/// Puts bytes in the place of those that stand from a place on.
+pub fn put_at(out: &mut [u8], at: usize, bytes: &[u8])
+    requires { at + length bytes.now ≤ length out.old }
+    ensures { out.new ≡ put_at out.old at bytes.now }
+{
+    out[at..at + bytes.len()].copy_from_slice(bytes);
 }
 
 /// The number in two bytes from a place on, None exactly where the bytes end before.

@@ -1,7 +1,9 @@
 // The 40 bytes of a slot.
 ghost use Rattle.std.specs.Prelude.{◌≡◌, ◌%◌, ◌^◌};
-ghost use Rattle.seg_base.specs.Images.{kind_code, kind_from, writer_tag, writer_number, writer_from, undo_or_zeros, link_or_zeros, slot_bytes};
+ghost use Rattle.seg_base.specs.Images.{kind_code, kind_from, writer_tag, writer_number, writer_from, undo_or_zeros, link_or_zeros, undo_bytes, link_bytes, sizes_bytes, slot_bytes};
 
+use crate::field::put_at;
+use crate::limit::SLOT_SIZE;
 use crate::number::{Dba, Scn, TxnId};
 use crate::slot::{Kind, Rowid, Slot, UndoAddr, Writer};
 
@@ -87,62 +89,52 @@ pub fn link_or_zeros(link: &Option<Rowid>) -> Rowid
     }
 }
 
+/// The 13 bytes of an address of undo.
+fn undo_bytes(undo: &UndoAddr) -> [u8; 13]
+    ensures { result ≡ undo_bytes undo.now }
+{
+    let mut bytes = [0; 13];
+    put_at(&mut bytes, 0, &undo.block.to_be_bytes());
+    put_at(&mut bytes, 4, &undo.seq.to_be_bytes());
+    bytes[12] = undo.nth;
+    bytes
+}
+
+/// The 5 bytes of a place.
+fn link_bytes(link: &Rowid) -> [u8; 5]
+    ensures { result ≡ link_bytes link.now }
+{
+    let dba = link.dba;
+    let mut bytes = [0; 5];
+    put_at(&mut bytes, 0, &dba.0.to_be_bytes());
+    bytes[4] = link.slot;
+    bytes
+}
+
+/// The 4 bytes that end a slot: how long its row is, and its room.
+fn sizes_bytes(slot: &Slot) -> [u8; 4]
+    ensures { result ≡ sizes_bytes slot.now }
+{
+    let mut bytes = [0; 4];
+    put_at(&mut bytes, 0, &low_u16(slot.bytes.len()).to_be_bytes());
+    put_at(&mut bytes, 2, &slot.room.to_be_bytes());
+    bytes
+}
+
 /// The slot's 40 bytes; its row stands elsewhere. Of a length the lowest 16 bits are written: a longer row has no
 /// spelling.
-pub fn slot_bytes(slot: &Slot) -> [u8; 40]
+pub fn slot_bytes(slot: &Slot) -> [u8; SLOT_SIZE]
     ensures { result ≡ slot_bytes slot.now }
 {
-    let w = writer_number(&slot.writer).to_be_bytes();
-    let undo = undo_or_zeros(&slot.undo);
-    let b = undo.block.to_be_bytes();
-    let s = undo.seq.to_be_bytes();
-    let r = slot.row.0.to_be_bytes();
-    let link = link_or_zeros(&slot.link);
-    let d = link.dba.0.to_be_bytes();
-    let n = low_u16(slot.bytes.len()).to_be_bytes();
-    let m = slot.room.to_be_bytes();
-    [
-        kind_code(slot.kind),
-        writer_tag(&slot.writer),
-        w[0],
-        w[1],
-        w[2],
-        w[3],
-        w[4],
-        w[5],
-        w[6],
-        w[7],
-        b[0],
-        b[1],
-        b[2],
-        b[3],
-        s[0],
-        s[1],
-        s[2],
-        s[3],
-        s[4],
-        s[5],
-        s[6],
-        s[7],
-        undo.nth,
-        r[0],
-        r[1],
-        r[2],
-        r[3],
-        r[4],
-        r[5],
-        r[6],
-        r[7],
-        d[0],
-        d[1],
-        d[2],
-        d[3],
-        link.slot,
-        n[0],
-        n[1],
-        m[0],
-        m[1],
-    ]
+    let mut bytes = [0; SLOT_SIZE];
+    bytes[0] = kind_code(slot.kind);
+    bytes[1] = writer_tag(&slot.writer);
+    put_at(&mut bytes, 2, &writer_number(&slot.writer).to_be_bytes());
+    put_at(&mut bytes, 10, &undo_bytes(&undo_or_zeros(&slot.undo)));
+    put_at(&mut bytes, 23, &slot.row.0.to_be_bytes());
+    put_at(&mut bytes, 31, &link_bytes(&link_or_zeros(&slot.link)));
+    put_at(&mut bytes, 36, &sizes_bytes(slot));
+    bytes
 }
 
 fn low_u16(n: usize) -> u16

@@ -4,6 +4,7 @@ ghost use Rattle.std.specs.List.{list_all};
 ghost use Rattle.seg_base.specs.Words.{is_name, is_lower, is_name_byte};
 
 use crate::NoMemory;
+use crate::limit::LONGEST_NAME;
 use std::alloc::Global;
 use std::marker::Model;
 
@@ -43,7 +44,7 @@ fn are_name_parts(bytes: &[u8]) -> bool
 pub fn is_name(bytes: &[u8]) -> bool
     ensures { result ≡ is_name bytes.now }
 {
-    if bytes.is_empty() || bytes.len() > 30 {
+    if bytes.is_empty() || bytes.len() > LONGEST_NAME {
         return false;
     }
     is_name_start(bytes[0]) && are_name_parts(bytes)

@@ -1,7 +1,6 @@
 -- The best of one more code.
-use Rattle.std.proofs.Common.{◌≡◌, ℕ, ◌+◌, ◌<◌, ◌≤◌, max, List, [], ◌∷◌, ◌++◌, length, take, get_or, refl, ap, ◌∙◌, arith}
-use Rattle.std.proofs.lemmas.List.{take_more, take_all}
-use Rattle.bitmap_block.specs.Codes.{good_code, best_of}
+use Rattle.seg_words.proofs.Std.{◌≡◌, ℕ, ◌+◌, ◌<◌, ◌≤◌, max, List, [], ◌∷◌, ◌++◌, length, take, get_or, refl, ap, ◌∙◌, arith, take_more, take_all}
+use Rattle.bitmap_block.specs.Types.{good_code, best_of}
 
 best_push : (xs : List ℕ) (c : ℕ) → best_of (xs ++ c ∷ []) ≡ max (good_code c) (best_of xs)
 best_push [] c = refl

@@ -1,10 +1,8 @@
 -- The pages of the bitmaps, written and read part by part.
-use Rattle.std.proofs.Common.{◌≡◌, ℕ, List, [], ◌++◌, drop, refl, ap, ◌∙◌}
-use Rattle.std.specs.Int.{w32, w64, to_be_bytes}
-use Rattle.seg_base.specs.Fields.{number_in}
-use Rattle.page_bytes.specs.Pages.{IsFront, head_bytes, page_of}
-use Rattle.bitmap_block.specs.Codes.{codes_in}
-use Rattle.bitmap_block.specs.Pages.{ExtentMap, Summary, spelling_of_map, spelling_of_summary, map_in, summary_in}
+use Rattle.seg_words.proofs.Std.{◌≡◌, ℕ, List, [], ◌++◌, drop, refl, ap, ◌∙◌, w32, w64, to_be_bytes}
+use Rattle.seg_words.specs.Types.{number_in}
+use Rattle.page_bytes.specs.Types.{IsFront, head_bytes, page_of}
+use Rattle.bitmap_block.specs.Types.{codes_in, ExtentMap, Summary, spelling_of_map, spelling_of_summary, map_in, summary_in}
 
 -- bytes were put behind those that a page begins with
 abbrev pub Puts : List ℕ → ℕ → List ℕ → List ℕ → ℕ → Type 0

@@ -1,9 +1,6 @@
 -- A page of a bitmap that is spelled is read.
-use Rattle.std.proofs.Common.{◌≡◌, ℕ, suc, min, List, [], ◌∷◌, ◌++◌, length, map, drop, refl, ap, ◌∙◌, arith}
-use Rattle.std.specs.Prelude.{replicate, ◌-◌}
-use Rattle.std.specs.Int.{w32, w64}
-use Rattle.std.proofs.lemmas.Nat.{from_be_bytes-to_be_bytes_4, from_be_bytes-to_be_bytes_8}
-use Rattle.seg_base.specs.Fields.{number_in}
+use Rattle.seg_words.proofs.Std.{◌≡◌, ℕ, suc, min, List, [], ◌∷◌, ◌++◌, length, map, drop, refl, ap, ◌∙◌, arith, replicate, ◌-◌, w32, w64, from_be_bytes-to_be_bytes_4, from_be_bytes-to_be_bytes_8}
+use Rattle.seg_words.specs.Types.{number_in, BLOCK_SIZE}
 use Rattle.page_bytes.proofs.Fronts.{take_front}
 use Rattle.bitmap_block.specs.Codes.{AreCodes, codes_in}
 use Rattle.bitmap_block.specs.Pages.{ExtentMap, Summary, spelling_of_map, spelling_of_summary, front_of_map, front_of_summary, map_in, summary_in, IsMap, IsSummary}
@@ -22,7 +19,7 @@ codes_again n codes rest count are = ap (map (λ b. min b 5)) (take_front codes 
 pub map_again : (m : ExtentMap) → IsMap m → map_in (spelling_of_map m) ≡ m
 unfolding spelling_of_map map_in
 map_again m fits =
-    let zeros : List ℕ = replicate (4096 - length (front_of_map m)) 0 in
+    let zeros : List ℕ = replicate (BLOCK_SIZE - length (front_of_map m)) 0 in
     let e1 : number_in w32 (spelling_of_map m) 4 ≡ m.dba = from_be_bytes-to_be_bytes_4 m.dba fits.dba in
     let e2 : number_in w64 (spelling_of_map m) 8 ≡ m.lsn = from_be_bytes-to_be_bytes_8 m.lsn fits.lsn in
     let e3 : number_in w64 (spelling_of_map m) 16 ≡ m.incarnation = from_be_bytes-to_be_bytes_8 m.incarnation fits.incarnation in
@@ -32,7 +29,7 @@ map_again m fits =
 pub summary_again : (kind n : ℕ) (s : Summary) → IsSummary n s → summary_in n (spelling_of_summary kind s) ≡ s
 unfolding spelling_of_summary summary_in
 summary_again kind n s fits =
-    let zeros : List ℕ = replicate (4096 - length (front_of_summary kind s)) 0 in
+    let zeros : List ℕ = replicate (BLOCK_SIZE - length (front_of_summary kind s)) 0 in
     let e1 : number_in w32 (spelling_of_summary kind s) 4 ≡ s.dba = from_be_bytes-to_be_bytes_4 s.dba fits.dba in
     let e2 : number_in w64 (spelling_of_summary kind s) 8 ≡ s.lsn = from_be_bytes-to_be_bytes_8 s.lsn fits.lsn in
     let e4 : codes_in n (drop 16 (spelling_of_summary kind s)) ≡ s.codes = codes_again n s.codes zeros fits.count fits.codes in

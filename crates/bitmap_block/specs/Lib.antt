@@ -1,3 +1,4 @@
 pub mod Codes
 pub mod Pages
 pub mod Again
+pub mod Types

@@ -1,5 +1,5 @@
 // Class codes as a page has them.
-ghost use Rattle.std.specs.Prelude.{◌≡◌, ◌<◌, ◌≤◌, ◌^◌, ◌+◌, length, take, drop};
+ghost use Rattle.seg_words.specs.Std.{◌≡◌, ◌<◌, ◌≤◌, length, take};
 ghost use Rattle.bitmap_block.specs.Codes.{codes_in, AreCodes};
 
 /// Reads as many codes as there is room for, each as the nearest that there is.
@@ -12,13 +12,4 @@ pub fn read_codes(bytes: &[u8], codes: &mut [u8])
     for i in 0..codes.len() {
         codes[i] = bytes[i].min(5);
     }
-}
-
-/// Numbers of these types are in their ranges.
-pub fn in_range(dba: u32, lsn: u64, incarnation: u64)
-    ensures dba { dba < 2 ^ 32 }
-    ensures lsn { lsn < 2 ^ 64 }
-    ensures incarnation { incarnation < 2 ^ 64 }
-{
-    let _numbers = (dba, lsn, incarnation);
 }

@@ -1,12 +1,12 @@
 // The bitmap of an extent.
-ghost use Rattle.std.specs.Prelude.{◌≡◌, ◌<◌, ◌≤◌, replicate, slice_index, slice_set};
+ghost use Rattle.seg_words.specs.Std.{◌≡◌, ◌<◌, ◌≤◌, replicate, slice_index, slice_set};
 ghost use Rattle.bitmap_block.specs.Codes.{best_of};
 ghost use Rattle.bitmap_block.specs.Pages.{spelling_of_map, IsMap};
 
 use crate::best::best_of;
-use crate::code::{in_range, read_codes};
-use page_bytes::{PageForm, add, begin, head_bytes, number_u32, number_u64};
-use seg_base::{Dba, Lsn, NoMemory};
+use crate::code::read_codes;
+use page_bytes::{PageForm, add, begin, head_bytes, in_range, number_u32, number_u64};
+use seg_base::{BLOCK_SIZE, Dba, Lsn, NoMemory};
 use std::alloc::Global;
 use std::marker::Model;
 
@@ -95,7 +95,8 @@ impl L1 {
         let dba = self.dba;
         let lsn = self.lsn;
         let incarnation = self.incarnation;
-        in_range(dba.0, lsn.0, incarnation.0);
+        in_range(dba.0, lsn.0);
+        in_range(dba.0, incarnation.0);
     }
 }
 
@@ -109,7 +110,7 @@ impl PageForm for L1 {
 
     ghost HasSpelling = { IsMap };
 
-    fn read(_alloc: Global, bytes: &[u8; 4096]) -> Result<L1, NoMemory> {
+    fn read(_alloc: Global, bytes: &[u8; BLOCK_SIZE]) -> Result<L1, NoMemory> {
         let mut codes = [0; 64];
         let (_, rest) = bytes.split_at(24);
         read_codes(rest, &mut codes);
@@ -121,14 +122,14 @@ impl PageForm for L1 {
         })
     }
 
-    fn write(&self, out: &mut [u8; 4096]) {
+    fn write(&self, out: &mut [u8; BLOCK_SIZE]) {
         write_map(self.dba, self.lsn, self.incarnation.0, &self.codes, out);
     }
 
     ghost reads_again = { map_again };
 }
 
-fn write_map(dba: Dba, lsn: Lsn, incarnation: u64, codes: &[u8; 64], out: &mut [u8; 4096])
+fn write_map(dba: Dba, lsn: Lsn, incarnation: u64, codes: &[u8; 64], out: &mut [u8; BLOCK_SIZE])
     ensures { out.new ≡ spelling_of_map (record { dba = dba; lsn = lsn; incarnation = incarnation; codes = codes.now }) }
 {
     let start = begin(out);

@@ -1,13 +1,13 @@
 // The bitmap above the extents.
-ghost use Rattle.std.specs.Prelude.{◌≡◌, ◌<◌, ◌≤◌, replicate, slice_index, slice_set};
+ghost use Rattle.seg_words.specs.Std.{◌≡◌, ◌<◌, ◌≤◌, replicate, slice_index, slice_set};
 ghost use Rattle.bitmap_block.specs.Codes.{best_of};
 ghost use Rattle.bitmap_block.specs.Pages.{IsSummary};
 
 use crate::best::best_of;
-use crate::code::{in_range, read_codes};
+use crate::code::read_codes;
 use crate::summary::write_summary;
-use page_bytes::{PageForm, number_u32, number_u64};
-use seg_base::{Dba, Lsn, NoMemory};
+use page_bytes::{PageForm, in_range, number_u32, number_u64};
+use seg_base::{BLOCK_SIZE, Dba, EXTENTS_OF_L2, Lsn, NoMemory, PAGE_HEAD_SIZE};
 use std::alloc::Global;
 use std::marker::Model;
 
@@ -16,25 +16,26 @@ use std::marker::Model;
 pub struct L2 {
     dba: Dba,
     lsn: Lsn,
-    codes: [u8; 300],
+    codes: [u8; EXTENTS_OF_L2],
 }
 
 impl Model for L2 {
     ghost use Rattle.bitmap_block.specs.Codes.{HasCodes};
+    ghost use Rattle.seg_words.specs.Types.{EXTENTS_OF_L2};
     ghost use Rattle.bitmap_block.specs.Pages.{Summary};
 
     ghost Value = { Summary };
 
     ghost view = { λ m. record { dba = m.dba; lsn = m.lsn; codes = m.codes } };
 
-    ghost invariant = { λ m. HasCodes 300 m.codes };
+    ghost invariant = { λ m. HasCodes EXTENTS_OF_L2 m.codes };
 }
 
 impl L2 {
     pub fn new(dba: Dba) -> L2
-        ensures { result ≡ record { dba = dba; lsn = 0; codes = replicate 300 0 } }
+        ensures { result ≡ record { dba = dba; lsn = 0; codes = replicate EXTENTS_OF_L2 0 } }
     {
-        let codes = [0; 300];
+        let codes = [0; EXTENTS_OF_L2];
         L2 {
             dba,
             lsn: Lsn(0),
@@ -56,7 +57,7 @@ impl L2 {
 
     /// The best code of the ith of these extents.
     pub fn get(&self, i: u16) -> u8
-        requires { i < 300 }
+        requires { i < EXTENTS_OF_L2 }
         ensures code { result ≡ slice_index self.now.codes i }
         ensures range { result ≤ 5 }
     {
@@ -65,7 +66,7 @@ impl L2 {
 
     /// Keeps the best code of the ith of these extents.
     pub fn set(&mut self, i: u16, code: u8)
-        requires place { i < 300 }
+        requires place { i < EXTENTS_OF_L2 }
         requires code { code ≤ 5 }
         ensures { self.new ≡ record self.old { codes = slice_set self.old.codes i code } }
     {
@@ -81,28 +82,29 @@ impl L2 {
 
     /// Each of these blocks has a spelling: what is written of it is read back.
     pub fn has_spelling(&self)
-        ensures { IsSummary 300 self.now }
+        ensures { IsSummary EXTENTS_OF_L2 self.now }
     {
         let _codes = &self.codes;
         let dba = self.dba;
         let lsn = self.lsn;
-        in_range(dba.0, lsn.0, 0);
+        in_range(dba.0, lsn.0);
     }
 }
 
 impl PageForm for L2 {
     ghost use Rattle.bitmap_block.specs.Pages.{spelling_of_summary, summary_in, IsSummary};
     ghost use Rattle.bitmap_block.specs.Again.{summary_again};
+    ghost use Rattle.seg_words.specs.Types.{EXTENTS_OF_L2};
 
     ghost spelling = { spelling_of_summary 8 };
 
-    ghost meaning = { summary_in 300 };
+    ghost meaning = { summary_in EXTENTS_OF_L2 };
 
-    ghost HasSpelling = { IsSummary 300 };
+    ghost HasSpelling = { IsSummary EXTENTS_OF_L2 };
 
-    fn read(_alloc: Global, bytes: &[u8; 4096]) -> Result<L2, NoMemory> {
-        let mut codes = [0; 300];
-        let (_, rest) = bytes.split_at(16);
+    fn read(_alloc: Global, bytes: &[u8; BLOCK_SIZE]) -> Result<L2, NoMemory> {
+        let mut codes = [0; EXTENTS_OF_L2];
+        let (_, rest) = bytes.split_at(PAGE_HEAD_SIZE);
         read_codes(rest, &mut codes);
         Ok(L2 {
             dba: Dba(number_u32(bytes, 4)),
@@ -111,9 +113,9 @@ impl PageForm for L2 {
         })
     }
 
-    fn write(&self, out: &mut [u8; 4096]) {
+    fn write(&self, out: &mut [u8; BLOCK_SIZE]) {
         write_summary(8, self.dba, self.lsn, &self.codes, out);
     }
 
-    ghost reads_again = { summary_again 8 300 };
+    ghost reads_again = { summary_again 8 EXTENTS_OF_L2 };
 }

@@ -1,13 +1,13 @@
 // The bitmap above all.
-ghost use Rattle.std.specs.Prelude.{◌≡◌, ◌<◌, ◌≤◌, replicate, slice_index, slice_set};
+ghost use Rattle.seg_words.specs.Std.{◌≡◌, ◌<◌, ◌≤◌, replicate, slice_index, slice_set};
 ghost use Rattle.bitmap_block.specs.Codes.{best_of};
 ghost use Rattle.bitmap_block.specs.Pages.{IsSummary};
 
 use crate::best::best_of;
-use crate::code::{in_range, read_codes};
+use crate::code::read_codes;
 use crate::summary::write_summary;
-use page_bytes::{PageForm, number_u32, number_u64};
-use seg_base::{Dba, Lsn, NoMemory};
+use page_bytes::{PageForm, in_range, number_u32, number_u64};
+use seg_base::{BLOCK_SIZE, Dba, Lsn, NoMemory, PAGE_HEAD_SIZE};
 use std::alloc::Global;
 use std::marker::Model;
 
@@ -86,7 +86,7 @@ impl L3 {
         let _codes = &self.codes;
         let dba = self.dba;
         let lsn = self.lsn;
-        in_range(dba.0, lsn.0, 0);
+        in_range(dba.0, lsn.0);
     }
 }
 
@@ -100,9 +100,9 @@ impl PageForm for L3 {
 
     ghost HasSpelling = { IsSummary 3 };
 
-    fn read(_alloc: Global, bytes: &[u8; 4096]) -> Result<L3, NoMemory> {
+    fn read(_alloc: Global, bytes: &[u8; BLOCK_SIZE]) -> Result<L3, NoMemory> {
         let mut codes = [0; 3];
-        let (_, rest) = bytes.split_at(16);
+        let (_, rest) = bytes.split_at(PAGE_HEAD_SIZE);
         read_codes(rest, &mut codes);
         Ok(L3 {
             dba: Dba(number_u32(bytes, 4)),
@@ -111,7 +111,7 @@ impl PageForm for L3 {
         })
     }
 
-    fn write(&self, out: &mut [u8; 4096]) {
+    fn write(&self, out: &mut [u8; BLOCK_SIZE]) {
         write_summary(9, self.dba, self.lsn, &self.codes, out);
     }
 

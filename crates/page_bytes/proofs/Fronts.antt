@@ -1,13 +1,8 @@
 -- Bytes put behind the front of a page.
-use Rattle.std.proofs.Common.{◌≡◌, ℕ, ◌+◌, ◌-◌, ◌≤◌, ◌<◌, get_or, List, [], ◌++◌, length, take, drop, refl, sym, ap, ◌∙◌, append_assoc, arith}
-use Rattle.std.specs.Prelude.{replicate}
-use Rattle.std.proofs.lemmas.List.{take_all, take_more, flat_map_more, length-append, append-nil, drop-replicate}
-use Rattle.std.proofs.Math.Seq.{drop-append_seam}
-use Rattle.std.proofs.lemmas.Grind.{common_steps}
+use Rattle.seg_words.proofs.Std.{◌≡◌, ℕ, ◌+◌, ◌-◌, ◌≤◌, ◌<◌, get_or, List, [], ◌++◌, length, take, drop, refl, sym, ap, ◌∙◌, append_assoc, arith, replicate, take_all, take_more, flat_map_more, length-append, append-nil, drop-replicate, drop-append_seam, common_steps, flat_map, length-flat_map-take}
+use Rattle.seg_words.specs.Types.{BLOCK_SIZE}
+use Rattle.page_bytes.specs.Types.{page_of, IsFront}
 use borrow.Rule.Slice.PartMut.{put_mid}
-use Rattle.std.specs.List.{flat_map}
-use Rattle.std.proofs.lemmas.List.Folds.{length-flat_map-take}
-use Rattle.page_bytes.specs.Pages.{page_of, IsFront}
 
 pub take_front : (front rest : List ℕ) (at : ℕ) → length front ≡ at → take at (front ++ rest) ≡ front
 take_front front rest at e = grind (arith, common_steps)
@@ -15,20 +10,20 @@ take_front front rest at e = grind (arith, common_steps)
 pub drop_front : (front rest : List ℕ) (at : ℕ) → length front ≡ at → drop at (front ++ rest) ≡ rest
 drop_front front rest at e = rw (← e) (drop-append_seam front rest)
 
-pub begun : (page : List ℕ) → page ≡ replicate 4096 0 → IsFront page [] 0
+pub begun : (page : List ℕ) → page ≡ replicate BLOCK_SIZE 0 → IsFront page [] 0
 begun page e = record { bytes = e; place = refl }
 
 behind : (front bytes : List ℕ) (at k : ℕ) → at ≡ length front → k ≡ length bytes → put_mid at k (page_of front) bytes ≡ page_of (front ++ bytes)
 behind front bytes at k h e =
-    let zeros : List ℕ = replicate (4096 - length front) 0 in
+    let zeros : List ℕ = replicate (BLOCK_SIZE - length front) 0 in
     let left : take at (page_of front) ≡ front = take_front front zeros at (sym h) in
     let right : drop at (page_of front) ≡ zeros = drop_front front zeros at (sym h) in
-    let tail : drop (length bytes) zeros ≡ replicate (4096 - length (front ++ bytes)) 0
-    = drop-replicate (length bytes) (4096 - length front) 0 ∙ ap (λ (n : ℕ). replicate n 0) (omega (arith, length-append front bytes)) in
+    let tail : drop (length bytes) zeros ≡ replicate (BLOCK_SIZE - length (front ++ bytes)) 0
+    = drop-replicate (length bytes) (BLOCK_SIZE - length front) 0 ∙ ap (λ (n : ℕ). replicate n 0) (omega (arith, length-append front bytes)) in
     rw e (ap (λ (p : List ℕ). p ++ (bytes ++ drop (length bytes) (drop at (page_of front)))) left
     ∙ ap (λ (q : List ℕ). front ++ (bytes ++ drop (length bytes) q)) right
     ∙ ap (λ (q : List ℕ). front ++ (bytes ++ q)) tail
-    ∙ sym (append_assoc front bytes (replicate (4096 - length (front ++ bytes)) 0)))
+    ∙ sym (append_assoc front bytes (replicate (BLOCK_SIZE - length (front ++ bytes)) 0)))
 
 pub added : (page page' front bytes : List ℕ) (at end k : ℕ) → end ≡ at + length bytes → k ≡ length bytes → page' ≡ put_mid at k page bytes → IsFront page front at → IsFront page' (front ++ bytes) end
 added page page' front bytes at end k n e put f = record {
@@ -44,7 +39,7 @@ pub record Added {X : Type 0} (f : X → List ℕ) (xs : List X) (page : List �
 pub none_added : {X : Type 0} (f : X → List ℕ) (xs : List X) (page : List ℕ) (at : ℕ) → Added f xs page at page at 0
 none_added f xs page at = record { place = omega arith; bytes = λ front h. rw (append-nil front) h }
 
-pub room_next : {X : Type 0} (f : X → List ℕ) (xs : List X) (page : List ℕ) (at : ℕ) (now : List ℕ) (next i : ℕ) (x : X) → Added f xs page at now next i → i < length xs → x ≡ get_or xs i x → at + length (flat_map f xs) ≤ 4096 → next + length (f x) ≤ 4096
+pub room_next : {X : Type 0} (f : X → List ℕ) (xs : List X) (page : List ℕ) (at : ℕ) (now : List ℕ) (next i : ℕ) (x : X) → Added f xs page at now next i → i < length xs → x ≡ get_or xs i x → at + length (flat_map f xs) ≤ BLOCK_SIZE → next + length (f x) ≤ BLOCK_SIZE
 room_next {X = X} f xs page at now next i x w lt is room = omega (arith, length-flat_map-take f xs i x lt, w.place, ap (λ (z : X). length (f z)) is)
 
 pub add_next : {X : Type 0} (f : X → List ℕ) (xs : List X) (page : List ℕ) (at : ℕ) (now : List ℕ) (next i : ℕ) (x : X) (now' : List ℕ) (next' : ℕ) → Added f xs page at now next i → i < length xs → x ≡ get_or xs i x

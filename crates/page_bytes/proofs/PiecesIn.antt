@@ -1,9 +1,6 @@
 -- Pieces read one behind the other.
-use Rattle.std.proofs.Common.{◌≡◌, ℕ, zero, suc, ◌+◌, ◌-◌, ◌*◌, ◌<◌, ◌≤◌, List, [], ◌∷◌, ◌++◌, length, take, drop, refl, sym, ap, ◌∙◌, append_assoc, arith}
-use Rattle.std.specs.List.{flat_map, AllByRecursion}
-use Rattle.std.proofs.lemmas.List.{append-nil, length-append, length-drop}
-use Rattle.std.proofs.lemmas.List.Concat.{flat_map-cons}
-use Rattle.page_bytes.specs.Pieces.{pieces_in}
+use Rattle.seg_words.proofs.Std.{◌≡◌, ℕ, zero, suc, ◌+◌, ◌-◌, ◌*◌, ◌<◌, ◌≤◌, List, [], ◌∷◌, ◌++◌, length, take, drop, refl, sym, ap, ◌∙◌, append_assoc, arith, flat_map, AllByRecursion, append-nil, length-append, length-drop, flat_map-cons}
+use Rattle.page_bytes.specs.Types.{pieces_in}
 use Rattle.page_bytes.proofs.Fronts.{take_front, drop_front}
 
 pub length-pieces_in : {A : Type 0} (meaning : List ℕ → A) (size n : ℕ) (bytes : List ℕ) → length (pieces_in meaning size n bytes) ≡ n

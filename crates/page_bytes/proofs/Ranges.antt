@@ -1,17 +1,7 @@
 -- What bytes read as is in the range of its field.
-use Rattle.std.proofs.Common.{◌≡◌, ℕ, zero, suc, ◌<◌, ◌≤◌, ◌^◌, List, [], ◌∷◌, length, get_or, take, drop, refl, arith}
-use Rattle.std.specs.Int.{w16, w32, w64, from_be_bytes}
-use Rattle.std.specs.List.{AllByRecursion}
-use Rattle.seg_base.specs.declared.slot.Kind.{Kind}
-use Rattle.seg_base.specs.declared.slot.Kind.TheVariants.{Empty, Row, Head, Body}
-use Rattle.seg_base.specs.declared.slot.Writer.{Writer}
-use Rattle.seg_base.specs.declared.slot.Writer.TheVariants.{By, At}
-use Rattle.seg_base.specs.Fields.{number_in}
-use Rattle.seg_base.specs.Images.{writer_number}
-use Rattle.page_bytes.specs.declared.slot.SlotFields.{SlotFields}
-use Rattle.page_bytes.specs.Pieces.{pieces_in}
-use Rattle.page_bytes.specs.Slots.{fields_in, kind_as, writer_as, undo_as, link_as, len_as, room_as, row_len, slot_as, UndoFits, LinkFits, IsSlot}
-use Rattle.page_bytes.specs.Entries.{entry_from, IsEntry}
+use Rattle.seg_words.proofs.Std.{◌≡◌, ℕ, zero, suc, ◌<◌, ◌≤◌, ◌^◌, List, [], ◌∷◌, length, get_or, take, drop, refl, arith, w16, w32, w64, from_be_bytes, AllByRecursion}
+use Rattle.seg_words.specs.Types.{Kind, Empty, Row, Head, Body, Writer, By, At, number_in, writer_number}
+use Rattle.page_bytes.specs.Types.{SlotFields, pieces_in, fields_in, kind_as, writer_as, undo_as, link_as, len_as, room_as, row_len, slot_as, UndoFits, LinkFits, IsSlot, entry_from, IsListEntry}
 
 abbrev pub IsBytes : List ℕ → Type 0
 IsBytes bytes = (i : ℕ) → get_or bytes i 0 < 256
@@ -51,7 +41,7 @@ unfolding pieces_in
 pieces_fit meaning Fits size zero bytes each h = tt
 pieces_fit meaning Fits size (suc n) bytes each h = (each (take size bytes) (bytes_take size bytes h), pieces_fit meaning Fits size n (drop size bytes) each (bytes_drop size bytes h))
 
-pub entry_fits : (g : List ℕ) → IsBytes g → IsEntry (entry_from g)
+pub entry_fits : (g : List ℕ) → IsBytes g → IsListEntry (entry_from g)
 entry_fits g h = record { txn = number_64 g 0 h; number = number_64 g 8 h }
 
 -- slots

@@ -1,18 +1,7 @@
 -- A slot that is spelled is read.
-use Rattle.std.proofs.Common.{◌≡◌, ℕ, zero, suc, ◌<◌, ◌^◌, length, Option, Some, None, refl, arith}
-use Rattle.std.specs.Int.{w16, w32, w64}
-use Rattle.std.proofs.lemmas.Nat.{from_be_bytes-to_be_bytes_2, from_be_bytes-to_be_bytes_4, from_be_bytes-to_be_bytes_8}
-use Rattle.seg_base.specs.declared.slot.Slot.{Slot}
-use Rattle.seg_base.specs.declared.slot.Kind.{Kind}
-use Rattle.seg_base.specs.declared.slot.Kind.TheVariants.{Empty, Row, Head, Body}
-use Rattle.seg_base.specs.declared.slot.Writer.{Writer}
-use Rattle.seg_base.specs.declared.slot.Writer.TheVariants.{By, At}
-use Rattle.seg_base.specs.declared.slot.UndoAddr.{UndoAddr}
-use Rattle.seg_base.specs.declared.slot.Rowid.{Rowid}
-use Rattle.seg_base.specs.Fields.{number_in}
-use Rattle.page_bytes.specs.declared.slot.SlotFields.{SlotFields}
-use Rattle.seg_base.specs.Images.{kind_code, writer_tag, writer_number, undo_or_zeros, link_or_zeros, slot_bytes}
-use Rattle.page_bytes.specs.Slots.{fields_in, kind_as, writer_as, undo_as, link_as, row_len, slot_as, UndoFits, LinkFits, IsSlot}
+use Rattle.seg_words.proofs.Std.{◌≡◌, ℕ, zero, suc, ◌<◌, ◌^◌, length, Option, Some, None, refl, arith, w16, w32, w64, from_be_bytes-to_be_bytes_2, from_be_bytes-to_be_bytes_4, from_be_bytes-to_be_bytes_8}
+use Rattle.seg_words.specs.Types.{Slot, Kind, Empty, Row, Head, Body, Writer, By, At, UndoAddr, Rowid, number_in, kind_code, writer_tag, writer_number, undo_or_zeros, link_or_zeros, slot_bytes}
+use Rattle.page_bytes.specs.Types.{SlotFields, fields_in, kind_as, writer_as, undo_as, link_as, row_len, slot_as, UndoFits, LinkFits, IsSlot}
 
 -- the fields of a slot
 abbrev pub fields_of : Slot → SlotFields

@@ -1,8 +1,6 @@
 -- The 24 bytes of an entry of a block's transaction list.
-use Rattle.std.specs.Prelude.{ℕ, ◌<◌, ◌^◌, List, ◌++◌}
-use Rattle.std.specs.Int.{w64, to_be_bytes}
-use Rattle.seg_base.specs.declared.slot.ListEntry.{ListEntry}
-use Rattle.seg_base.specs.Fields.{number_in}
+use Rattle.seg_words.specs.Std.{ℕ, ◌<◌, ◌^◌, List, ◌++◌, w64, to_be_bytes}
+use Rattle.seg_words.specs.Types.{ListEntry, number_in}
 
 -- the transaction, its commit number, 8 zeros
 abbrev pub entry_bytes : ListEntry → List ℕ
@@ -12,6 +10,6 @@ abbrev pub entry_from : List ℕ → ListEntry
 entry_from g = record { txn = number_in w64 g 0; number = number_in w64 g 8 }
 
 -- the entries that have a spelling
-pub record IsEntry (e : ListEntry) : Type 0 where
+pub record IsListEntry (e : ListEntry) : Type 0 where
   pub txn : e.txn < 2 ^ 64
   pub number : e.number < 2 ^ 64

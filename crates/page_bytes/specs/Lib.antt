@@ -3,3 +3,4 @@ pub mod Pieces
 pub mod Slots
 pub mod Entries
 pub mod EntriesAgain
+pub mod Types

@@ -1,13 +1,12 @@
 -- The pages of the data file, 4,096 bytes each: a front and zeros to the end. The layout is this engine's own.
-use Rattle.std.specs.Prelude.{◌≡◌, ℕ, ◌-◌, ◌<◌, ◌==◌, List, ◌∷◌, ◌++◌, length, take, drop, replicate, Result, Ok, Err}
-use Rattle.std.specs.Int.{w32, w64, to_be_bytes}
-use Rattle.std.specs.List.{common_prefix_len}
+use Rattle.seg_words.specs.Std.{◌≡◌, ℕ, ◌-◌, ◌<◌, ◌==◌, List, ◌∷◌, ◌++◌, length, take, drop, replicate, Result, Ok, Err, w32, w64, to_be_bytes, common_prefix_len}
+use Rattle.seg_words.specs.Types.{BLOCK_SIZE}
 use Rattle.page_bytes.specs.declared.fault.PageFault.{PageFault}
 use Rattle.page_bytes.specs.declared.fault.PageFault.TheVariants.{BadPage, NoMemory}
 
 -- a front and the zeros behind it
 abbrev pub page_of : List ℕ → List ℕ
-page_of front = front ++ replicate (4096 - length front) 0
+page_of front = front ++ replicate (BLOCK_SIZE - length front) 0
 
 -- bytes over those that stand at a place
 abbrev pub over : List ℕ → ℕ → List ℕ → List ℕ
@@ -30,7 +29,7 @@ first_wrong bytes spelling = common_prefix_len (λ a b. a == b) bytes spelling
 -- spelling: `meaning` says what is read so, and `spelling` what a value is written as.
 abbrev pub Decodes : {P : Type 0} → (P → List ℕ) → (List ℕ → P) → List ℕ → Result P PageFault → Type 0
 Decodes spelling meaning bytes (Ok p) = (p ≡ meaning bytes) × (bytes ≡ spelling p)
-Decodes spelling meaning bytes (Err (BadPage at)) = (at ≡ first_wrong bytes (spelling (meaning bytes))) × (at < 4096)
+Decodes spelling meaning bytes (Err (BadPage at)) = (at ≡ first_wrong bytes (spelling (meaning bytes))) × (at < BLOCK_SIZE)
 Decodes spelling meaning bytes (Err NoMemory) = Unit {0}
 
 -- what decoding the spelling of p answered: p, unless memory ran out

@@ -1,15 +1,6 @@
 -- What the 40 bytes of a slot read as. The row of a slot stands elsewhere.
-use Rattle.std.specs.Prelude.{◌≡◌, ℕ, zero, suc, ◌<◌, ◌^◌, List, length, max, slice_index, Option, Some, None}
-use Rattle.std.specs.Int.{w16, w32, w64}
-use Rattle.seg_base.specs.declared.slot.Slot.{Slot}
-use Rattle.seg_base.specs.declared.slot.UndoAddr.{UndoAddr}
-use Rattle.seg_base.specs.declared.slot.Rowid.{Rowid}
-use Rattle.seg_base.specs.declared.slot.Kind.{Kind}
-use Rattle.seg_base.specs.declared.slot.Kind.TheVariants.{Empty, Row, Head, Body}
-use Rattle.seg_base.specs.declared.slot.Writer.{Writer}
-use Rattle.seg_base.specs.declared.slot.Writer.TheVariants.{By, At}
-use Rattle.seg_base.specs.Fields.{number_in}
-use Rattle.seg_base.specs.Images.{writer_number}
+use Rattle.seg_words.specs.Std.{◌≡◌, ℕ, zero, suc, ◌<◌, ◌^◌, List, length, max, slice_index, Option, Some, None, w16, w32, w64}
+use Rattle.seg_words.specs.Types.{Slot, UndoAddr, Rowid, Kind, Empty, Row, Head, Body, Writer, By, At, number_in, writer_number}
 use Rattle.page_bytes.specs.declared.slot.SlotFields.{SlotFields}
 
 -- the fields as they stand in 40 bytes

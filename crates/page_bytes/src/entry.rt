@@ -1,26 +1,24 @@
 // The 24 bytes of a list entry.
-ghost use Rattle.std.specs.Prelude.{◌≡◌};
-ghost use Rattle.page_bytes.specs.Entries.{entry_bytes, entry_from, IsEntry};
+ghost use Rattle.seg_words.specs.Std.{◌≡◌};
+ghost use Rattle.page_bytes.specs.Entries.{entry_bytes, entry_from, IsListEntry};
 
 use crate::Piece;
 use crate::field::number_u64;
 use crate::front::add;
-use seg_base::{ListEntry, NoMemory, Scn, TxnId};
+use seg_base::{BLOCK_SIZE, LIST_ENTRY_SIZE, ListEntry, NoMemory, Scn, TxnId, put_at};
 use std::alloc::Global;
 
-fn entry_bytes(entry: &ListEntry) -> [u8; 24]
+fn entry_bytes(entry: &ListEntry) -> [u8; LIST_ENTRY_SIZE]
     ensures { result ≡ entry_bytes entry.now }
 {
-    let t = entry.txn.0.to_be_bytes();
-    let n = entry.number.0.to_be_bytes();
-    [
-        t[0], t[1], t[2], t[3], t[4], t[5], t[6], t[7], n[0], n[1], n[2], n[3], n[4], n[5], n[6],
-        n[7], 0, 0, 0, 0, 0, 0, 0, 0,
-    ]
+    let mut bytes = [0; LIST_ENTRY_SIZE];
+    put_at(&mut bytes, 0, &entry.txn.0.to_be_bytes());
+    put_at(&mut bytes, 8, &entry.number.0.to_be_bytes());
+    bytes
 }
 
 impl Piece for ListEntry {
-    ghost use Rattle.page_bytes.specs.Entries.{entry_bytes, entry_from, IsEntry};
+    ghost use Rattle.page_bytes.specs.Entries.{entry_bytes, entry_from, IsListEntry};
     ghost use Rattle.page_bytes.specs.EntriesAgain.{length-entry_bytes, entry_again};
 
     const SIZE: usize = 24;
@@ -31,7 +29,7 @@ impl Piece for ListEntry {
 
     ghost meaning = { entry_from };
 
-    ghost HasSpelling = { IsEntry };
+    ghost HasSpelling = { IsListEntry };
 
     fn read(_alloc: Global, bytes: &[u8]) -> Result<ListEntry, NoMemory> {
         Ok(ListEntry {
@@ -40,7 +38,7 @@ impl Piece for ListEntry {
         })
     }
 
-    fn add(&self, page: &mut [u8; 4096], at: usize) -> usize {
+    fn add(&self, page: &mut [u8; BLOCK_SIZE], at: usize) -> usize {
         add(page, at, &entry_bytes(self))
     }
 

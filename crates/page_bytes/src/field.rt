@@ -1,10 +1,9 @@
 // Numbers in the bytes of a page, and what each page begins with.
-ghost use Rattle.std.specs.Prelude.{◌≡◌, ◌≤◌, ◌+◌, length};
-ghost use Rattle.std.specs.Int.{w16, w32, w64};
-ghost use Rattle.seg_base.specs.Fields.{number_in};
+ghost use Rattle.seg_words.specs.Std.{◌≡◌, ◌≤◌, ◌<◌, ◌^◌, ◌+◌, length, take, drop, w16, w32, w64};
+ghost use Rattle.seg_words.specs.Types.{number_in};
 ghost use Rattle.page_bytes.specs.Pages.{head_bytes};
 
-use seg_base::{Dba, Lsn};
+use seg_base::{Dba, Lsn, PAGE_HEAD_SIZE, put_at};
 
 /// The number in two bytes from a place on.
 pub fn number_u16(bytes: &[u8], at: usize) -> u16
@@ -35,14 +34,37 @@ pub fn number_u64(bytes: &[u8], at: usize) -> u64
     ])
 }
 
+/// The first bytes, as far as they go, and the others.
+pub fn cut(bytes: &[u8], len: usize) -> (&[u8], &[u8])
+    ensures front { result.0.now ≡ take len bytes.now }
+    ensures back { result.1.now ≡ drop len bytes.now }
+    ensures most { length result.0.now ≤ len }
+    ensures both { length result.0.now + length result.1.now ≡ length bytes.now }
+{
+    if len <= bytes.len() {
+        bytes.split_at(len)
+    } else {
+        bytes.split_at(bytes.len())
+    }
+}
+
+/// Numbers of these types are in their ranges.
+pub fn in_range(four: u32, eight: u64)
+    ensures four { four < 2 ^ 32 }
+    ensures eight { eight < 2 ^ 64 }
+{
+    let _numbers = (four, eight);
+}
+
 /// The 16 bytes that a page begins with.
-pub fn head_bytes(kind: u8, first: u8, second: u8, dba: Dba, lsn: Lsn) -> [u8; 16]
+pub fn head_bytes(kind: u8, first: u8, second: u8, dba: Dba, lsn: Lsn) -> [u8; PAGE_HEAD_SIZE]
     ensures { result ≡ head_bytes kind first second dba lsn }
 {
-    let d = dba.0.to_be_bytes();
-    let l = lsn.0.to_be_bytes();
-    [
-        kind, first, second, 0, d[0], d[1], d[2], d[3], l[0], l[1], l[2], l[3], l[4], l[5], l[6],
-        l[7],
-    ]
+    let mut bytes = [0; PAGE_HEAD_SIZE];
+    bytes[0] = kind;
+    bytes[1] = first;
+    bytes[2] = second;
+    put_at(&mut bytes, 4, &dba.0.to_be_bytes());
+    put_at(&mut bytes, 8, &lsn.0.to_be_bytes());
+    bytes
 }

@@ -1,22 +1,22 @@
 // A page is written from its first byte on, over zeros.
-ghost use Rattle.std.specs.Prelude.{◌≡◌, ◌≤◌, ◌+◌, ◌++◌, [], List, ℕ, length};
-ghost use Rattle.std.specs.List.{flat_map};
+ghost use Rattle.seg_words.specs.Std.{◌≡◌, ◌≤◌, ◌+◌, ◌++◌, [], List, ℕ, length, flat_map};
 ghost use Rattle.page_bytes.specs.Pages.{IsFront};
 
 use crate::Piece;
+use seg_base::BLOCK_SIZE;
 
 /// Begins a page: all zeros.
 #[tactic(auto, using(crate::proofs::Fronts::begun))]
-pub fn begin(page: &mut [u8; 4096]) -> usize
+pub fn begin(page: &mut [u8; BLOCK_SIZE]) -> usize
     ensures { IsFront page.new [] result }
 {
-    *page = [0; 4096];
+    *page = [0; BLOCK_SIZE];
     0
 }
 
 /// Writes bytes behind those that a page begins with, and answers the place behind them.
-pub fn add(page: &mut [u8; 4096], at: usize, bytes: &[u8]) -> usize
-    requires { at + length bytes.now ≤ 4096 }
+pub fn add(page: &mut [u8; BLOCK_SIZE], at: usize, bytes: &[u8]) -> usize
+    requires { at + length bytes.now ≤ BLOCK_SIZE }
     ensures place { result ≡ at + length bytes.now }
     ensures bytes { (front : List ℕ) → IsFront page.old front at → IsFront page.new (front ++ bytes.now) result }
 {
@@ -26,8 +26,8 @@ pub fn add(page: &mut [u8; 4096], at: usize, bytes: &[u8]) -> usize
 }
 
 /// Writes pieces one behind the other.
-pub fn add_all<T: Piece>(page: &mut [u8; 4096], at: usize, pieces: &[T]) -> usize
-    requires { at + length (flat_map T.spelling pieces.now) ≤ 4096 }
+pub fn add_all<T: Piece>(page: &mut [u8; BLOCK_SIZE], at: usize, pieces: &[T]) -> usize
+    requires { at + length (flat_map T.spelling pieces.now) ≤ BLOCK_SIZE }
     ensures place { result ≡ at + length (flat_map T.spelling pieces.now) }
     ensures bytes { (front : List ℕ) → IsFront page.old front at → IsFront page.new (front ++ flat_map T.spelling pieces.now) result }
 {

@@ -13,8 +13,8 @@ mod slot;
 
 pub use compare::first_wrong;
 pub use fault::PageFault;
-pub use field::{head_bytes, number_u16, number_u32, number_u64};
+pub use field::{cut, head_bytes, in_range, number_u16, number_u32, number_u64};
 pub use front::{add, add_all, begin};
 pub use page::{PageForm, decode};
 pub use piece::{Piece, read_all};
-pub use slot::SlotFields;
+pub use slot::{SlotFields, undo_as};

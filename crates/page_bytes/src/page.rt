@@ -1,10 +1,10 @@
 // The one form in which a page of any kind is decoded.
-ghost use Rattle.std.specs.Prelude.{◌≡◌, ◌≤◌, List, ℕ, IfOk};
+ghost use Rattle.seg_words.specs.Std.{◌≡◌, ◌≤◌, List, ℕ, IfOk};
 ghost use Rattle.page_bytes.specs.Pages.{Decodes, IsReadAs, first_wrong};
 
 use crate::PageFault;
 use crate::compare::first_wrong;
-use seg_base::NoMemory;
+use seg_base::{BLOCK_SIZE, NoMemory};
 use std::alloc::Global;
 
 /// The pages of one kind. Each value has one spelling, and each page that spells one is read as that value.
@@ -18,10 +18,10 @@ pub trait PageForm: Drop {
     /// The values whose spelling is theirs alone.
     ghost HasSpelling: { Self → Type 0 };
 
-    fn read(alloc: Global, bytes: &[u8; 4096]) -> Result<Self, NoMemory>
+    fn read(alloc: Global, bytes: &[u8; BLOCK_SIZE]) -> Result<Self, NoMemory>
         ensures { IfOk result (λ page. page ≡ meaning bytes.now) };
 
-    fn write(&self, out: &mut [u8; 4096])
+    fn write(&self, out: &mut [u8; BLOCK_SIZE])
         ensures { out.new ≡ spelling self.now };
 
     /// What is spelled is read.
@@ -29,18 +29,18 @@ pub trait PageForm: Drop {
 }
 
 /// How far the bytes are the spelling of the page.
-fn spelled_until<P: PageForm>(page: &P, bytes: &[u8; 4096]) -> usize
+fn spelled_until<P: PageForm>(page: &P, bytes: &[u8; BLOCK_SIZE]) -> usize
     ensures value { result ≡ first_wrong bytes.now (P.spelling page.now) }
-    ensures range { result ≤ 4096 }
-    ensures same { 4096 ≤ result → bytes.now ≡ P.spelling page.now }
+    ensures range { result ≤ BLOCK_SIZE }
+    ensures same { BLOCK_SIZE ≤ result → bytes.now ≡ P.spelling page.now }
 {
-    let mut again = [0; 4096];
+    let mut again = [0; BLOCK_SIZE];
     page.write(&mut again);
     first_wrong(bytes, &again)
 }
 
 /// The page that the bytes spell, or the first byte that is wrong.
-pub fn decode<P: PageForm>(alloc: Global, bytes: &[u8; 4096]) -> Result<P, PageFault>
+pub fn decode<P: PageForm>(alloc: Global, bytes: &[u8; BLOCK_SIZE]) -> Result<P, PageFault>
     // What is read is spelled so, and a fault is the first one.
     ensures exact { Decodes P.spelling P.meaning bytes.now result }
     // What is spelled is read.
@@ -48,7 +48,7 @@ pub fn decode<P: PageForm>(alloc: Global, bytes: &[u8; 4096]) -> Result<P, PageF
 {
     let page = P::read(alloc, bytes)?;
     let at = spelled_until(&page, bytes);
-    if at < 4096 {
+    if at < BLOCK_SIZE {
         return Err(PageFault::BadPage { offset: at as u16 });
     }
     Ok(page)

@@ -1,9 +1,9 @@
 // Pieces of one size, as entries of a list in a page.
-ghost use Rattle.std.specs.Prelude.{◌≡◌, ◌≤◌, ◌+◌, ◌*◌, ◌++◌, List, ℕ, IfOk, length};
+ghost use Rattle.seg_words.specs.Std.{◌≡◌, ◌≤◌, ◌+◌, ◌*◌, ◌++◌, List, ℕ, IfOk, length};
 ghost use Rattle.page_bytes.specs.Pages.{IsFront};
 ghost use Rattle.page_bytes.specs.Pieces.{pieces_in};
 
-use seg_base::NoMemory;
+use seg_base::{BLOCK_SIZE, NoMemory};
 use std::alloc::Global;
 
 /// What stands in a fixed number of bytes.
@@ -26,8 +26,8 @@ pub trait Piece: Drop {
         ensures { IfOk result (λ piece. piece ≡ meaning bytes.now) };
 
     /// Writes its bytes behind those that a page begins with.
-    fn add(&self, page: &mut [u8; 4096], at: usize) -> usize
-        requires { at + SIZE ≤ 4096 }
+    fn add(&self, page: &mut [u8; BLOCK_SIZE], at: usize) -> usize
+        requires { at + SIZE ≤ BLOCK_SIZE }
         ensures place { result ≡ at + SIZE }
         ensures bytes { (front : List ℕ) → IsFront page.old front at → IsFront page.new (front ++ spelling self.now) result };
 

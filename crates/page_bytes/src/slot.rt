@@ -1,5 +1,5 @@
 // What the 40 bytes of a slot read as.
-ghost use Rattle.std.specs.Prelude.{◌≡◌, ◌<◌, ◌^◌, length, IfOk};
+ghost use Rattle.seg_words.specs.Std.{◌≡◌, ◌<◌, ◌^◌, length, IfOk};
 ghost use Rattle.page_bytes.specs.Slots.{fields_in, kind_as, writer_as, undo_as, link_as, len_as, room_as, row_len, slot_as};
 
 use crate::field::{number_u16, number_u32, number_u64};
@@ -42,7 +42,8 @@ fn writer_as(tag: u8, number: u64) -> Writer
     }
 }
 
-fn undo_as(block: u32, seq: u64, nth: u8) -> Option<UndoAddr>
+/// An address of undo, none where its block is 0.
+pub fn undo_as(block: u32, seq: u64, nth: u8) -> Option<UndoAddr>
     ensures { result ≡ undo_as block seq nth }
 {
     match block {

@@ -1,20 +1,10 @@
 -- A block as a record of lists gives each slot's image and each list entry.
-use Rattle.std.proofs.Common.{◌≡◌, ℕ, zero, suc, max, cond, eqb, List, [], ◌∷◌, length, get_or, map, inl, inr, Option, Some, None, refl, ap, ◌∙◌}
-use Rattle.std.proofs.lemmas.Bool.{cases_Bool}
-use Rattle.std.proofs.lemmas.List.{length-map}
-use Rattle.seg_base.specs.declared.slot.Slot.{Slot}
-use Rattle.seg_base.specs.declared.slot.ListEntry.{ListEntry}
-use Rattle.seg_base.specs.declared.slot.Writer.{Writer}
-use Rattle.seg_base.specs.declared.slot.Writer.TheVariants.{By, At}
-use Rattle.seg_base.specs.Blocks.{new_slot, new_entry}
-use Rattle.seg_base.specs.Cleaning.{number_of, entry_as_told, clean_slot, clean_entry}
+use Rattle.seg_words.proofs.Std.{◌≡◌, ℕ, zero, suc, max, cond, eqb, List, [], ◌∷◌, length, get_or, map, inl, inr, Option, Some, None, refl, ap, ◌∙◌, cases_Bool, length-map}
+use Rattle.seg_words.specs.Types.{Slot, ListEntry, Writer, By, At, new_slot, new_entry, number_of, entry_as_told, clean_slot, clean_entry}
 use Rattle.seg_base.proofs.Puts.{get_or-put, length-put}
-use Rattle.redo_record.specs.declared.record.Record.{Record}
-use Rattle.redo_record.specs.declared.part.RowPart.{RowPart}
-use Rattle.redo_model.specs.Effects.{Effect, Still, Formats, Adds, TakesBack, Cleans, effect_of, Placed, written, restored}
-use Rattle.redo_model.specs.Slots.{placed_in, changed_image, image, slots_reached, changed_slot_count, slot_count, is_at, entered_in, entered_by, changed_entry, entry, reach_entry, entries_reached, count_entered, changed_entry_count, entry_count}
-use Rattle.redo_model.specs.Blocks.{place_all, changed_slots, slots_of, enter_at, enter_all, enter_by, changed_entries, entries_of}
-use Rattle.redo_model.specs.Bridges.{BlocksAreBridged}
+use Rattle.redo_model.specs.Records.{Record, RowPart}
+use Rattle.redo_model.specs.Model.{Effect, effect_of, Placed, written, restored, placed_in, changed_image, image, slots_reached, changed_slot_count, slot_count, is_at, entered_in, entered_by, changed_entry, entry, reach_entry, entries_reached, count_entered, changed_entry_count, entry_count, place_all, changed_slots, slots_of, enter_at, enter_all, enter_by, changed_entries, entries_of, BlocksAreBridged}
+use Rattle.redo_model.specs.Effects.{Still, Formats, Adds, TakesBack, Cleans}
 
 -- slots
 

@@ -1,17 +1,8 @@
 -- A Clean that names one transaction, where a test that computes says that the block names no other.
-use Rattle.std.proofs.Common.{◌≡◌, ◌⊎◌, ℕ, Bool, true, false, ◌&&◌, ◌||◌, eqb, List, [], ◌∷◌, Option, Some, None, sym, ◌∙◌, ap, subst, inl, inr}
-use Rattle.std.proofs.lemmas.Bool.{or_cases, eqb-true, true≢false, cases_Bool, cond-true, cond-false, and_parts, eq-eqb}
-use Rattle.seg_base.specs.declared.shape.Shape.{Shape}
-use Rattle.seg_base.specs.declared.slot.Slot.{Slot}
-use Rattle.seg_base.specs.declared.slot.ListEntry.{ListEntry}
-use Rattle.seg_base.specs.declared.slot.Writer.{Writer}
-use Rattle.seg_base.specs.declared.slot.Writer.TheVariants.{By, At}
-use Rattle.redo_record.specs.declared.record.Record.{Record}
-use Rattle.redo_model.specs.Transactions.{has_ended}
-use Rattle.redo_model.specs.Steps.{is_by}
-use Rattle.redo_model.specs.Blocks.{block_of}
-use Rattle.redo_model.specs.Segments.{IsRowBlock}
-use Rattle.redo_model.specs.AllowedTransactions.{slots_name, entries_name, is_named_in, stated_number, Names, CleanAllowed}
+use Rattle.seg_words.proofs.Std.{◌≡◌, ◌⊎◌, ℕ, Bool, true, false, ◌&&◌, ◌||◌, eqb, List, [], ◌∷◌, Option, Some, None, sym, ◌∙◌, ap, subst, inl, inr, or_cases, eqb-true, true≢false, cases_Bool, cond-true, cond-false, and_parts, eq-eqb}
+use Rattle.seg_words.specs.Types.{Shape, Slot, ListEntry, Writer, By, At}
+use Rattle.redo_model.specs.Records.{Record}
+use Rattle.redo_model.specs.Model.{has_ended, is_by, block_of, IsRowBlock, slots_name, entries_name, is_named_in, stated_number, Names, CleanAllowed}
 
 abbrev pub writer_only : ℕ → Writer → Bool
 writer_only u (By t) = eqb t u

@@ -1,14 +1,11 @@
 -- The small runs are lawful: each of the nineteen kinds is allowed where it stands in them.
-use Rattle.std.proofs.Common.{◌≡◌, ℕ, ◌<◌, ◌≤◌, Bool, true, false, List, [], drop, refl, sym, arith, lit<, lit≤}
-use Rattle.std.proofs.lemmas.Bool.{agree_below, agree_below_at, true≢false}
-use Rattle.redo_record.specs.declared.record.Record.{Record}
-use Rattle.redo_model.specs.Transactions.{control_number}
-use Rattle.redo_model.specs.Segments.{IsTable, table_count, IsLeastFree, is_free_extent}
-use Rattle.redo_model.specs.AllowedTransactions.{TakesEntry, takes_unused, is_unused, entry_state, Unused}
+use Rattle.seg_words.proofs.Std.{◌≡◌, ℕ, ◌<◌, ◌≤◌, Bool, true, false, List, [], drop, refl, sym, arith, lit<, lit≤, agree_below, agree_below_at, true≢false}
+use Rattle.redo_model.specs.Records.{Record}
+use Rattle.redo_model.specs.Model.{control_number, IsTable, table_count, IsLeastFree, is_free_extent, TakesEntry, is_unused, entry_state, AreAllowed, IsLawful}
+use Rattle.redo_model.specs.AllowedTransactions.{takes_unused, Unused}
 use Rattle.redo_model.proofs.Cleaned.{clean_one}
 use Rattle.redo_model.specs.AllowedRows.{migrates_plain, deletes_plain}
 use Rattle.redo_model.specs.AllowedMoves.{moves_plain}
-use Rattle.redo_model.specs.Lawful.{AreAllowed, IsLawful}
 use Rattle.redo_model.specs.Worked.{small, letters, hello, nine, three, migrated, backed, migrated_for_good, updated, restored_body, filled, returned, moved, half_deleted, reused, lowered}
 
 -- a test of numbers below n holds at each where it computes

@@ -1,15 +1,12 @@
 -- What is not allowed, and why.
-use Rattle.std.proofs.Common.{◌≡◌, ℕ, false, drop, Option, Some, None, refl, sym, ◌∙◌, ap, arith, lit<, lit≤}
-use Rattle.std.proofs.lemmas.Bool.{true≢false}
-use Rattle.redo_record.specs.declared.row.MoveRecord.{MoveRecord}
-use Rattle.redo_model.specs.Effects.{Step}
-use Rattle.redo_model.specs.Segments.{has_movement}
-use Rattle.redo_model.specs.AllowedTransactions.{TakesEntry, takes_unused, takes_rolled_back, takes_committed}
-use Rattle.redo_model.specs.AllowedRows.{MayChangeRow, MigrateAllowed, migrates_plain, migrates_again, DeleteAllowed, deletes_plain, deletes_migrated}
-use Rattle.redo_model.specs.AllowedMoves.{MoveAllowed, moves_plain, moves_to_body, moves_migrated}
+use Rattle.seg_words.proofs.Std.{◌≡◌, ℕ, false, drop, Option, Some, None, refl, sym, ◌∙◌, ap, arith, lit<, lit≤, true≢false}
+use Rattle.redo_model.specs.Records.{MoveRecord}
+use Rattle.redo_model.specs.Model.{Step, has_movement, TakesEntry, MayChangeRow, MigrateAllowed, DeleteAllowed, MoveAllowed, standing, newest_of}
+use Rattle.redo_model.specs.AllowedTransactions.{takes_unused, takes_rolled_back, takes_committed}
+use Rattle.redo_model.specs.AllowedRows.{migrates_plain, migrates_again, deletes_plain, deletes_migrated}
+use Rattle.redo_model.specs.AllowedMoves.{moves_plain, moves_to_body, moves_migrated}
 use Rattle.redo_model.specs.Refused.{NotAllowed, beside, by_3}
-use Rattle.redo_model.specs.Steps.{standing, newest_of}
-use Rattle.seg_base.specs.declared.slot.UndoAddr.{UndoAddr}
+use Rattle.seg_words.specs.Types.{UndoAddr}
 use Rattle.redo_model.specs.Worked.{small, nine, three}
 
 one_not_none : {A : Type 0} (x : A) → ◌≡◌ {A = Option A} (Some x) None → ⊥

@@ -1,14 +1,9 @@
 -- When a Move may follow the records R, and what its fields must be. SHRINK SPACE compacts rows towards the front of the
 -- segment (Oracle Database Administrator's Guide, "Shrinking Database Segments Online"); in what order rows move, and that
 -- a move is a commit of its own without changes, is this engine's own.
-use Rattle.std.specs.Prelude.{◌≡◌, ◌⊎◌, ℕ, suc, ◌<◌, ◌≤◌, true, ◌&&◌, List, [], ◌∷◌, length, take, find, Option, Some, None}
-use Rattle.seg_base.specs.declared.shape.Shape.{Shape}
-use Rattle.seg_base.specs.declared.slot.Writer.TheVariants.{At}
-use Rattle.seg_base.specs.declared.slot.Taker.TheVariants.{Shrink}
-use Rattle.seg_base.specs.Room.{writer_has_ended}
-use Rattle.redo_record.specs.declared.record.Record.{Record}
-use Rattle.redo_record.specs.declared.part.RowPart.{RowPart}
-use Rattle.redo_record.specs.declared.row.MoveRecord.{MoveRecord}
+use Rattle.seg_words.specs.Std.{◌≡◌, ◌⊎◌, ℕ, suc, ◌<◌, ◌≤◌, true, ◌&&◌, List, [], ◌∷◌, length, take, find, Option, Some, None}
+use Rattle.seg_words.specs.Types.{Shape, At, Shrink, writer_has_ended}
+use Rattle.redo_model.specs.Records.{Record, RowPart, MoveRecord}
 use Rattle.redo_model.specs.Effects.{part_addr}
 use Rattle.redo_model.specs.Ordinals.{commit_count}
 use Rattle.redo_model.specs.Transactions.{ended_in}

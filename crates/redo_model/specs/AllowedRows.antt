@@ -1,23 +1,9 @@
 -- When a row record or a Back may follow the records R, and what its fields must be. Rows that outgrow their block are
 -- migrated whole and keep their rowid (Oracle Database Concepts, "Chained and Migrated Rows"); the return of a migrated
 -- row to its first slot, rooms, and the order of parts (head, old body, target) are this engine's own.
-use Rattle.std.specs.Prelude.{◌≡◌, ◌≢◌, ℕ, suc, ◌≤◌, true, false, List, [], ◌∷◌, length, Option, Some, None, MatchOption}
-use Rattle.seg_base.specs.declared.shape.Shape.{Shape}
-use Rattle.seg_base.specs.declared.slot.Kind.{Kind}
-use Rattle.seg_base.specs.declared.slot.Kind.TheVariants.{Empty, Row, Head, Body}
-use Rattle.seg_base.specs.declared.slot.Writer.{Writer}
-use Rattle.seg_base.specs.declared.slot.Writer.TheVariants.{By, At}
-use Rattle.seg_base.specs.declared.slot.Rowid.{Rowid}
-use Rattle.seg_base.specs.declared.slot.UndoAddr.{UndoAddr}
-use Rattle.seg_base.specs.declared.undo.UndoPlace.{UndoPlace}
-use Rattle.seg_base.specs.declared.slot.Slot.{Slot}
-use Rattle.seg_base.specs.declared.slot.Taker.TheVariants.{Open}
-use Rattle.seg_base.specs.Room.{next_room, slot_to_use, entry_for}
-use Rattle.redo_record.specs.declared.record.Record.{Record}
-use Rattle.redo_record.specs.declared.part.RowPart.{RowPart}
-use Rattle.redo_record.specs.declared.part.BackPart.{BackPart}
-use Rattle.redo_record.specs.declared.row.RowBody.{RowBody}
-use Rattle.redo_record.specs.declared.row.BackRecord.{BackRecord}
+use Rattle.seg_words.specs.Std.{◌≡◌, ◌≢◌, ℕ, suc, ◌≤◌, true, false, List, [], ◌∷◌, length, Option, Some, None, MatchOption}
+use Rattle.seg_words.specs.Types.{Shape, Kind, Empty, Row, Head, Body, Writer, By, At, Rowid, UndoAddr, UndoPlace, Slot, Open, next_room, slot_to_use, entry_for, LONGEST_ROW}
+use Rattle.redo_model.specs.Records.{Record, RowPart, BackPart, RowBody, BackRecord}
 use Rattle.redo_model.specs.Effects.{Step, part_addr}
 use Rattle.redo_model.specs.Ordinals.{commit_count, row_count}
 use Rattle.redo_model.specs.Transactions.{is_active, ended_in, entry_of}
@@ -89,7 +75,7 @@ pub record MayChange (R : List Record) (w : RowBody) : Type 0 where
 -- a row has 1 to 1,800 bytes
 pub record IsRowSize (bytes : List ℕ) : Type 0 where
   pub least : 1 ≤ length bytes
-  pub most : length bytes ≤ 1800
+  pub most : length bytes ≤ LONGEST_ROW
 
 -- the list entry that a transaction uses in a block
 pub record Enters (R : List Record) (t b entry : ℕ) : Type 0 where

@@ -1,19 +1,8 @@
 -- When a record of tables, extents, blocks and marks may follow the records R, and what its fields must be. This engine's
 -- own, but for the meaning of the marks (Oracle Database Concepts, "Segment Space and the High Water Mark").
-use Rattle.std.specs.Prelude.{◌≡◌, ℕ, suc, ◌+◌, ◌<◌, ◌≤◌, min, true, false, eqb, List, [], ◌∷◌, length, map, take, drop, Option, Some, None}
-use Rattle.seg_base.specs.declared.shape.Shape.{Shape}
-use Rattle.seg_base.specs.Places.{first_block}
-use Rattle.seg_base.specs.Classes.{class_code}
-use Rattle.seg_base.specs.Words.{is_name}
-use Rattle.redo_record.specs.declared.record.Record.{Record}
-use Rattle.redo_record.specs.declared.record.Record.TheVariants.{Extend, FormatBlock, Class, Lower}
-use Rattle.redo_record.specs.declared.space.TableRecord.{TableRecord}
-use Rattle.redo_record.specs.declared.space.MovementRecord.{MovementRecord}
-use Rattle.redo_record.specs.declared.space.ExtendRecord.{ExtendRecord}
-use Rattle.redo_record.specs.declared.space.FormatBlockRecord.{FormatBlockRecord}
-use Rattle.redo_record.specs.declared.space.ClassRecord.{ClassRecord}
-use Rattle.redo_record.specs.declared.space.AdvanceRecord.{AdvanceRecord}
-use Rattle.redo_record.specs.declared.space.LowerRecord.{LowerRecord}
+use Rattle.seg_words.specs.Std.{◌≡◌, ℕ, suc, ◌+◌, ◌<◌, ◌≤◌, min, true, false, eqb, List, [], ◌∷◌, length, map, take, drop, Option, Some, None, ◌*◌}
+use Rattle.seg_words.specs.Types.{Shape, first_block, class_code, is_name, MOST_PCTFREE, MOST_TABLES, MOST_EXTENTS, EXTENTS_OF_L2, ADVANCE_BLOCKS}
+use Rattle.redo_model.specs.Records.{Record, Extend, FormatBlock, Class, Lower, TableRecord, MovementRecord, ExtendRecord, FormatBlockRecord, ClassRecord, AdvanceRecord, LowerRecord}
 use Rattle.redo_model.specs.Ordinals.{lowering_count}
 use Rattle.redo_model.specs.Segments.{Extent, extents_of, data_of, data_blocks, low_mark, high_mark, under_high, first_unformatted, IsTable, table_count, table_named, IsLeastFree, IsRowBlock, kept_length, extent_at, header_of, l2_of, l3_of, index_of, group_start, block_in}
 use Rattle.redo_model.specs.Kept.{kept_class, best_in_l1, best_in_l2}
@@ -22,8 +11,8 @@ use Rattle.redo_model.specs.Kept.{kept_class, best_in_l1, best_in_l2}
 pub record TableAllowed (sh : Shape) (R : List Record) (t : TableRecord) : Type 0 where
   pub named : is_name t.name ≡ true
   pub new_name : table_named R t.name ≡ None
-  pub few : table_count R < 32
-  pub pctfree : t.pctfree ≤ 50
+  pub few : table_count R < MOST_TABLES
+  pub pctfree : t.pctfree ≤ MOST_PCTFREE
   pub number : t.obj ≡ suc (table_count R)
   pub extent : ℕ
   pub room : IsLeastFree sh R extent
@@ -39,7 +28,7 @@ pub record ExtendAllowed (sh : Shape) (R : List Record) (e : ExtendRecord) : Typ
   pub table : IsTable R e.obj
   pub extent : IsLeastFree sh R e.extent
   pub index : e.index ≡ length (extents_of R e.obj)
-  pub few : e.index < 900
+  pub few : e.index < MOST_EXTENTS
   pub full : 0 < e.index → high_mark R e.obj ≡ length (data_blocks sh R e.obj)
   pub formatted : 0 < e.index → first_unformatted sh R (data_blocks sh R e.obj) ≡ None
   pub header : e.header ≡ header_of sh (extents_of (Extend e ∷ R) e.obj)
@@ -78,7 +67,7 @@ pub record AdvanceAllowed (sh : Shape) (R : List Record) (a : AdvanceRecord) : T
   pub formatted : first_unformatted sh R (under_high sh R a.obj) ≡ None
   pub room : high_mark R a.obj < length (data_blocks sh R a.obj)
   pub low : a.low ≡ high_mark R a.obj
-  pub high : a.high ≡ min (high_mark R a.obj + 16) (length (data_blocks sh R a.obj))
+  pub high : a.high ≡ min (high_mark R a.obj + ADVANCE_BLOCKS) (length (data_blocks sh R a.obj))
 
 abbrev pub l2_at : Shape → Option Extent → Option ℕ
 l2_at sh None = None
@@ -86,10 +75,10 @@ l2_at sh (Some e) = Some (block_in sh (Some e) 1)
 
 -- the L2 of these extents, in order: each covers 300 of at most 900
 abbrev pub all_l2 : Shape → List Extent → List (Option ℕ)
-all_l2 sh es = l2_at sh (extent_at es 0) ∷ l2_at sh (extent_at es 300) ∷ l2_at sh (extent_at es 600) ∷ []
+all_l2 sh es = l2_at sh (extent_at es 0) ∷ l2_at sh (extent_at es EXTENTS_OF_L2) ∷ l2_at sh (extent_at es (2 * EXTENTS_OF_L2)) ∷ []
 
 abbrev pub all_bests : Shape → List Record → ℕ → List ℕ
-all_bests sh R o = best_in_l2 sh R o 0 ∷ best_in_l2 sh R o 300 ∷ best_in_l2 sh R o 600 ∷ []
+all_bests sh R o = best_in_l2 sh R o 0 ∷ best_in_l2 sh R o EXTENTS_OF_L2 ∷ best_in_l2 sh R o (2 * EXTENTS_OF_L2) ∷ []
 
 -- the longest suffix of vacant extents after the first is released
 pub record LowerAllowed (sh : Shape) (R : List Record) (l : LowerRecord) : Type 0 where

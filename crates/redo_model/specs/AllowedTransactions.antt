@@ -1,17 +1,8 @@
 -- When a record of transactions, undo blocks and cleaning may follow the records R, and what its fields must be. Oracle
 -- Database Concepts, "Transactions"; the table of 96 entries, which entry is taken, and the ring are this engine's own.
-use Rattle.std.specs.Prelude.{◌≡◌, ℕ, suc, ◌<◌, ◌≤◌, Bool, true, false, cond, ◌||◌, eqb, List, [], ◌∷◌, Option, Some, None}
-use Rattle.seg_base.specs.declared.shape.Shape.{Shape}
-use Rattle.seg_base.specs.declared.slot.Slot.{Slot}
-use Rattle.seg_base.specs.declared.slot.ListEntry.{ListEntry}
-use Rattle.seg_base.specs.Blocks.{Block}
-use Rattle.seg_base.specs.Cleaning.{number_of}
-use Rattle.redo_record.specs.declared.record.Record.{Record}
-use Rattle.redo_record.specs.declared.transaction.BeginRecord.{BeginRecord}
-use Rattle.redo_record.specs.declared.transaction.ReuseRecord.{ReuseRecord}
-use Rattle.redo_record.specs.declared.transaction.CommitRecord.{CommitRecord}
-use Rattle.redo_record.specs.declared.transaction.EndedRecord.{EndedRecord}
-use Rattle.redo_record.specs.declared.transaction.CleanRecord.{CleanRecord}
+use Rattle.seg_words.specs.Std.{◌≡◌, ℕ, suc, ◌<◌, ◌≤◌, Bool, true, false, cond, ◌||◌, eqb, List, [], ◌∷◌, Option, Some, None}
+use Rattle.seg_words.specs.Types.{Shape, Slot, ListEntry, Block, number_of, TXN_ENTRIES, MOST_SESSIONS}
+use Rattle.redo_model.specs.Records.{Record, BeginRecord, ReuseRecord, CommitRecord, EndedRecord, CleanRecord}
 use Rattle.redo_model.specs.Ordinals.{commit_count, txn_count}
 use Rattle.redo_model.specs.Transactions.{is_active, has_ended, commit_number, control_number, entry_of, user_of, is_forgotten, has_open}
 use Rattle.redo_model.specs.Steps.{is_by, standing, newest_of, is_backed}
@@ -51,26 +42,26 @@ NoneBelow R n p = (j : ℕ) → j < n → p (entry_state R j) ≡ false
 
 -- the least unused entry
 pub record TakesUnused (R : List Record) (entry control : ℕ) : Type 0 where
-  pub within : entry < 96
+  pub within : entry < TXN_ENTRIES
   pub unused : entry_state R entry ≡ Unused
   pub least : NoneBelow R entry is_unused
   pub control_stays : control ≡ control_number R
 
 -- else the least entry of a rolled-back transaction
 pub record TakesRolledBack (R : List Record) (entry control : ℕ) : Type 0 where
-  pub within : entry < 96
-  pub no_unused : NoneBelow R 96 is_unused
+  pub within : entry < TXN_ENTRIES
+  pub no_unused : NoneBelow R TXN_ENTRIES is_unused
   pub rolled_back : entry_state R entry ≡ RolledBack
   pub least : NoneBelow R entry is_rolled_back
   pub control_stays : control ≡ control_number R
 
 -- else the committed entry with the least commit number, to which the control number rises
 pub record TakesCommitted (R : List Record) (entry control : ℕ) : Type 0 where
-  pub within : entry < 96
-  pub no_unused : NoneBelow R 96 is_unused
-  pub no_rolled_back : NoneBelow R 96 is_rolled_back
+  pub within : entry < TXN_ENTRIES
+  pub no_unused : NoneBelow R TXN_ENTRIES is_unused
+  pub no_rolled_back : NoneBelow R TXN_ENTRIES is_rolled_back
   pub committed : entry_state R entry ≡ Committed control
-  pub least : (j c : ℕ) → j < 96 → entry_state R j ≡ Committed c → control ≤ c
+  pub least : (j c : ℕ) → j < TXN_ENTRIES → entry_state R j ≡ Committed c → control ≤ c
 
 pub data TakesEntry (R : List Record) (entry control : ℕ) : Type 0 where
   takes_unused : TakesUnused R entry control → TakesEntry R entry control
@@ -80,7 +71,7 @@ pub data TakesEntry (R : List Record) (entry control : ℕ) : Type 0 where
 pub record BeginAllowed (R : List Record) (g : BeginRecord) : Type 0 where
   pub number : g.txn ≡ suc (txn_count R)
   pub session_from : 1 ≤ g.session
-  pub session_to : g.session ≤ 64
+  pub session_to : g.session ≤ MOST_SESSIONS
   pub none_open : has_open R g.session ≡ false
   pub entry : TakesEntry R g.entry g.control
 

@@ -1,21 +1,8 @@
 -- What a record does: to rows and blocks, and to transactions. These are the only definitions of rows, blocks and
 -- transactions that tell the kinds of records apart. This engine's own.
-use Rattle.std.specs.Prelude.{ℕ, ◌+◌, Bool, true, false, List, [], ◌∷◌, Option, None}
-use Rattle.seg_base.specs.declared.slot.Writer.{Writer}
-use Rattle.seg_base.specs.declared.slot.Writer.TheVariants.{By, At}
-use Rattle.seg_base.specs.declared.slot.UndoAddr.{UndoAddr}
-use Rattle.seg_base.specs.declared.slot.Slot.{Slot}
-use Rattle.seg_base.specs.declared.undo.UndoPlace.{UndoPlace}
-use Rattle.redo_record.specs.declared.record.Record.{Record}
-use Rattle.redo_record.specs.declared.record.Record.TheVariants.{FormatBlock, Begin, Insert, Update, Migrate, Return, Delete, Commit, Back, Ended, Move, Clean}
-use Rattle.redo_record.specs.declared.part.RowPart.{RowPart}
-use Rattle.redo_record.specs.declared.part.BackPart.{BackPart}
-use Rattle.redo_record.specs.declared.row.RowBody.{RowBody}
-use Rattle.redo_record.specs.declared.row.MoveRecord.{MoveRecord}
-use Rattle.redo_record.specs.declared.row.BackRecord.{BackRecord}
-use Rattle.redo_record.specs.declared.transaction.BeginRecord.{BeginRecord}
-use Rattle.redo_record.specs.declared.transaction.CommitRecord.{CommitRecord}
-use Rattle.redo_record.specs.declared.transaction.EndedRecord.{EndedRecord}
+use Rattle.seg_words.specs.Std.{ℕ, ◌+◌, Bool, true, false, List, [], ◌∷◌, Option, None}
+use Rattle.seg_words.specs.Types.{Writer, By, At, UndoAddr, Slot, UndoPlace}
+use Rattle.redo_model.specs.Records.{Record, FormatBlock, Begin, Insert, Update, Migrate, Return, Delete, Commit, Back, Ended, Move, Clean, RowPart, BackPart, RowBody, MoveRecord, BackRecord, BeginRecord, CommitRecord, EndedRecord}
 
 -- A row record or a Move, as what it does: by whom, to which row of which table, in which slots, and whether it deletes
 -- the row. Its undo address is that of its first part.

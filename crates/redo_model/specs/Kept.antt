@@ -1,13 +1,9 @@
 -- The kept class of a block, the entry of the bitmap that DBMS_SPACE counts and DBMS_REPAIR sets, whether it is exact,
 -- and the best of several. Oracle: DBMS_SPACE.SPACE_USAGE, DBMS_REPAIR.SEGMENT_FIX_STATUS. When it is changed is this
 -- engine's own.
-use Rattle.std.specs.Prelude.{◌≡◌, ℕ, suc, max, cond, eqb, ltb, List, [], ◌∷◌, Option, Some, None}
-use Rattle.seg_base.specs.declared.class.Class.{Class as BlockClass}
-use Rattle.seg_base.specs.declared.class.Class.TheVariants.{Fs4}
-use Rattle.seg_base.specs.declared.shape.Shape.{Shape}
-use Rattle.seg_base.specs.Classes.{class_code}
-use Rattle.redo_record.specs.declared.record.Record.{Record}
-use Rattle.redo_record.specs.declared.record.Record.TheVariants.{FormatBlock, Class}
+use Rattle.seg_words.specs.Std.{◌≡◌, ℕ, suc, max, cond, eqb, ltb, List, [], ◌∷◌, Option, Some, None}
+use Rattle.seg_words.specs.Types.{Class as BlockClass, Fs4, Shape, class_code}
+use Rattle.redo_model.specs.Records.{Record, FormatBlock, Class}
 use Rattle.redo_model.specs.Blocks.{class_of_block}
 use Rattle.redo_model.specs.Segments.{Extent, extents_of, extent_data, is_formatted, IsRowBlock, pctfree_of, group_start, extent_at}
 

@@ -19,3 +19,5 @@ pub mod Worked
 pub mod Computed
 pub mod Refused
 pub mod Bridges
+pub mod Model
+pub mod Records

@@ -1,9 +1,8 @@
 -- Numbers are ordinals: a commit number (SCN) counts Commit and Move records, a row number Insert records, a transaction
 -- number Begin records, a lowering Lower records. Oracle Database Concepts, "System Change Numbers"; that they are
 -- ordinals is this engine's own.
-use Rattle.std.specs.Prelude.{ℕ, suc, Bool, true, false, cond, List, [], ◌∷◌}
-use Rattle.redo_record.specs.declared.record.Record.{Record}
-use Rattle.redo_record.specs.declared.record.Record.TheVariants.{Lower, Begin, Insert, Commit, Move}
+use Rattle.seg_words.specs.Std.{ℕ, suc, Bool, true, false, cond, List, [], ◌∷◌}
+use Rattle.redo_model.specs.Records.{Record, Lower, Begin, Insert, Commit, Move}
 
 abbrev pub is_commit : Record → Bool
 is_commit (Commit c) = true

@@ -1,11 +1,7 @@
 -- For each kind of record a list after which it is not allowed, for the reason that its row of the definition gives.
-use Rattle.std.specs.Prelude.{ℕ, true, List, [], ◌∷◌, drop, Some, None}
-use Rattle.seg_base.specs.declared.class.Class.TheVariants.{Fs4}
-use Rattle.seg_base.specs.declared.slot.Writer.TheVariants.{By, At}
-use Rattle.seg_base.specs.Blocks.{new_slot}
-use Rattle.redo_record.specs.declared.record.Record.{Record}
-use Rattle.redo_record.specs.declared.record.Record.TheVariants.{Movement, Extend, Lower, Begin, Reuse, Update, Migrate, Return, Delete, Back, Ended, Move}
-use Rattle.redo_record.specs.declared.row.RowBody.{RowBody}
+use Rattle.seg_words.specs.Std.{ℕ, true, List, [], ◌∷◌, drop, Some, None}
+use Rattle.seg_words.specs.Types.{Fs4, By, At, new_slot}
+use Rattle.redo_model.specs.Records.{Record, Movement, Extend, Lower, Begin, Reuse, Update, Migrate, Return, Delete, Back, Ended, Move, RowBody}
 use Rattle.redo_model.specs.Lawful.{IsAllowed}
 use Rattle.redo_model.specs.Worked.{small, hello, undo_at, place_at, row_by, empty_by, part, change, insert, table_t, extend_by, advance_4, format_block, class_to, commit, clean, nine, three, migrated, backed, lowered}
 

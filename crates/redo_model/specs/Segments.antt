@@ -1,12 +1,9 @@
 -- A table's extents, its data blocks in order of position, its marks, and what its records say of it. Oracle Database
 -- Concepts, "Logical Storage Structures": a segment is a set of extents; blocks under the low high water mark are
 -- formatted, between the marks either, above the high one none. Which blocks are data is this engine's own.
-use Rattle.std.specs.Prelude.{◌≡◌, ℕ, zero, suc, ◌+◌, ◌-◌, ◌≤◌, Bool, true, false, cond, not, ◌&&◌, ◌||◌, eqb, ltb, leb, List, [], ◌∷◌, ◌++◌, length, take, Option, Some, None, Contains}
-use Rattle.std.specs.List.{list_all, position_or_len}
-use Rattle.seg_base.specs.declared.shape.Shape.{Shape}
-use Rattle.seg_base.specs.Places.{first_block, is_extent, head_blocks}
-use Rattle.redo_record.specs.declared.record.Record.{Record}
-use Rattle.redo_record.specs.declared.record.Record.TheVariants.{Table, Movement, Extend, FormatBlock, Advance, Lower}
+use Rattle.seg_words.specs.Std.{◌≡◌, ℕ, zero, suc, ◌+◌, ◌-◌, ◌≤◌, Bool, true, false, cond, not, ◌&&◌, ◌||◌, eqb, ltb, leb, List, [], ◌∷◌, ◌++◌, length, take, Option, Some, None, Contains, list_all, position_or_len, ◌*◌}
+use Rattle.seg_words.specs.Types.{Shape, first_block, is_extent, head_blocks, MOST_TABLES, EXTENTS_OF_L2}
+use Rattle.redo_model.specs.Records.{Record, Table, Movement, Extend, FormatBlock, Advance, Lower}
 use Rattle.redo_model.specs.Blocks.{is_vacant_block}
 
 -- an extent of a table, and the LSN of its Extend record, its incarnation
@@ -157,7 +154,7 @@ is_taken R (suc n) x = has_extent (extents_of R (suc n)) x || is_taken R n x
 
 -- a whole extent of the store that none of the 32 tables has
 abbrev pub is_free_extent : Shape → List Record → ℕ → Bool
-is_free_extent sh R x = is_extent sh x && not (is_taken R 32 x)
+is_free_extent sh R x = is_extent sh x && not (is_taken R MOST_TABLES x)
 
 -- the least free extent
 pub record IsLeastFree (sh : Shape) (R : List Record) (x : ℕ) : Type 0 where
@@ -195,7 +192,7 @@ l3_of sh es = block_in sh (extent_at es 0) 2
 
 -- the index of the extent with the L2 that covers the extent at this index: each covers 300
 abbrev pub group_start : ℕ → ℕ
-group_start index = cond (ltb index 300) 0 (cond (ltb index 600) 300 600)
+group_start index = cond (ltb index EXTENTS_OF_L2) 0 (cond (ltb index (2 * EXTENTS_OF_L2)) EXTENTS_OF_L2 (2 * EXTENTS_OF_L2))
 
 -- the L2 that covers the extent at this index
 abbrev pub l2_of : Shape → List Extent → ℕ → ℕ

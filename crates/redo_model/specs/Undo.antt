@@ -1,17 +1,9 @@
 -- Undo blocks: what they hold, whose it is, which one is used next, and which undo a scan needs. Oracle Database Concepts,
 -- "Undo Segments": undo is kept in a ring, and that of ended transactions is overwritten. The ring of blocks, the address
 -- of a part and when a block may be reused are this engine's own.
-use Rattle.std.specs.Prelude.{◌≡◌, ℕ, zero, suc, ◌+◌, ◌-◌, ◌<◌, min, Bool, true, false, cond, not, ◌&&◌, ◌||◌, eqb, ltb, List, [], ◌∷◌, ◌++◌, length, map, Option, Some, None, filter, find, Contains, MatchOption}
-use Rattle.std.specs.List.{sum_by}
-use Rattle.seg_base.specs.declared.shape.Shape.{Shape}
-use Rattle.seg_base.specs.declared.slot.Writer.{Writer}
-use Rattle.seg_base.specs.declared.slot.Writer.TheVariants.{By, At}
-use Rattle.seg_base.specs.declared.slot.UndoAddr.{UndoAddr}
-use Rattle.seg_base.specs.declared.slot.Slot.{Slot}
-use Rattle.seg_base.specs.declared.undo.UndoPlace.{UndoPlace}
-use Rattle.redo_record.specs.declared.record.Record.{Record}
-use Rattle.redo_record.specs.declared.record.Record.TheVariants.{Reuse}
-use Rattle.redo_record.specs.declared.part.RowPart.{RowPart}
+use Rattle.seg_words.specs.Std.{◌≡◌, ℕ, zero, suc, ◌+◌, ◌-◌, ◌<◌, min, Bool, true, false, cond, not, ◌&&◌, ◌||◌, eqb, ltb, List, [], ◌∷◌, ◌++◌, length, map, Option, Some, None, filter, find, Contains, MatchOption, sum_by}
+use Rattle.seg_words.specs.Types.{Shape, Writer, By, At, UndoAddr, Slot, UndoPlace, BLOCK_ROOM, UNDO_PART_SIZE, OWN_BLOCKS}
+use Rattle.redo_model.specs.Records.{Record, Reuse, RowPart}
 use Rattle.redo_model.specs.Effects.{Step, Effect, Adds, effect_of}
 use Rattle.redo_model.specs.Transactions.{is_active}
 use Rattle.redo_model.specs.Segments.{blocks_from}
@@ -25,7 +17,7 @@ pub record Undone : Type 0 where
 
 -- 64 bytes, and those of the old row
 abbrev pub part_size : RowPart → ℕ
-part_size p = 64 + length p.old.bytes
+part_size p = UNDO_PART_SIZE + length p.old.bytes
 
 abbrev pub parts_size : List RowPart → ℕ
 parts_size [] = 0
@@ -131,18 +123,18 @@ has_holder R u = elim (undo_holder R u) [ None ↦ false | Some t ↦ true ]
 
 -- the undo blocks in ring order after block u
 abbrev pub ring_after : Shape → ℕ → List ℕ
-ring_after sh u = blocks_from (suc u) (36 + sh.undo - u) ++ blocks_from 37 (u - 37)
+ring_after sh u = blocks_from (suc u) (36 + sh.undo - u) ++ blocks_from OWN_BLOCKS (u - OWN_BLOCKS)
 
 -- the block that is taken into use next: the first one after the current one that has no holder
 abbrev pub next_undo : Shape → List Record → Option ℕ
-next_undo sh R = elim (current_undo R) [ None ↦ Some 37 | Some u ↦ find (λ b. not (has_holder R b)) (ring_after sh u) ]
+next_undo sh R = elim (current_undo R) [ None ↦ Some OWN_BLOCKS | Some u ↦ find (λ b. not (has_holder R b)) (ring_after sh u) ]
 
 -- a block may be taken into use
 pub record MayReuse (sh : Shape) (R : List Record) (u : ℕ) : Type 0 where
   pub next : next_undo sh R ≡ Some u
 
 abbrev pub fits_undo : List Record → List RowPart → ℕ → Bool
-fits_undo R ps u = not (ltb 4032 (undo_used R u + parts_size ps))
+fits_undo R ps u = not (ltb BLOCK_ROOM (undo_used R u + parts_size ps))
 
 -- the parts don't fit in the current block, or there is none
 abbrev pub IsUndoFull : List Record → List RowPart → Type 0

@@ -1,12 +1,8 @@
 -- The images of a slot, newest first, and which of them a scan at a commit number sees: read consistency by undo (Oracle
 -- Database Concepts, "Multiversion Read Consistency"). That a migrated row is met at its body is this engine's own.
-use Rattle.std.specs.Prelude.{◌≡◌, ℕ, zero, suc, Bool, true, cond, not, ◌||◌, eqb, leb, List, [], ◌∷◌, ◌++◌, map, Option, Some, None, filter}
-use Rattle.seg_base.specs.declared.slot.Writer.{Writer}
-use Rattle.seg_base.specs.declared.slot.Writer.TheVariants.{By, At}
-use Rattle.seg_base.specs.declared.slot.UndoAddr.{UndoAddr}
-use Rattle.seg_base.specs.declared.slot.Slot.{Slot}
-use Rattle.redo_record.specs.declared.record.Record.{Record}
-use Rattle.redo_record.specs.declared.part.RowPart.{RowPart}
+use Rattle.seg_words.specs.Std.{◌≡◌, ℕ, zero, suc, Bool, true, cond, not, ◌||◌, eqb, leb, List, [], ◌∷◌, ◌++◌, map, Option, Some, None, filter}
+use Rattle.seg_words.specs.Types.{Writer, By, At, UndoAddr, Slot}
+use Rattle.redo_model.specs.Records.{Record, RowPart}
 use Rattle.redo_model.specs.Effects.{Step, Effect, Still, Formats, Adds, TakesBack, Cleans, effect_of, part_addr}
 use Rattle.redo_model.specs.Transactions.{is_committed_by}
 use Rattle.redo_model.specs.Steps.{is_addr}

@@ -1,20 +1,8 @@
 -- Small runs as lists of records, newest first, in a store of 64 blocks with extents of 8 and 2 undo blocks: undo blocks 37
 -- and 38, extents from 39, 47 and 55 on; the first table's data blocks are 43 to 46, then 48 to 54.
-use Rattle.std.specs.Prelude.{ℕ, true, List, [], ◌∷◌, length, Option, Some, None, replicate}
-use Rattle.seg_base.specs.declared.class.Class.{Class as BlockClass}
-use Rattle.seg_base.specs.declared.class.Class.TheVariants.{Fs1}
-use Rattle.seg_base.specs.declared.shape.Shape.{Shape}
-use Rattle.seg_base.specs.declared.slot.Kind.TheVariants.{Row, Head, Body, Empty}
-use Rattle.seg_base.specs.declared.slot.Writer.{Writer}
-use Rattle.seg_base.specs.declared.slot.Writer.TheVariants.{By, At}
-use Rattle.seg_base.specs.declared.slot.UndoAddr.{UndoAddr}
-use Rattle.seg_base.specs.declared.slot.Slot.{Slot}
-use Rattle.seg_base.specs.declared.undo.UndoPlace.{UndoPlace}
-use Rattle.seg_base.specs.Blocks.{new_slot}
-use Rattle.redo_record.specs.declared.record.Record.{Record}
-use Rattle.redo_record.specs.declared.record.Record.TheVariants.{Table, Movement, Extend, FormatBlock, Class, Advance, Lower, Begin, Reuse, Insert, Update, Migrate, Return, Delete, Commit, Back, Ended, Move, Clean}
-use Rattle.redo_record.specs.declared.part.RowPart.{RowPart}
-use Rattle.redo_record.specs.declared.row.RowBody.{RowBody}
+use Rattle.seg_words.specs.Std.{ℕ, true, List, [], ◌∷◌, length, Option, Some, None, replicate}
+use Rattle.seg_words.specs.Types.{Class as BlockClass, Fs1, Shape, Row, Head, Body, Empty, Writer, By, At, UndoAddr, Slot, UndoPlace, new_slot}
+use Rattle.redo_model.specs.Records.{Record, Table, Movement, Extend, FormatBlock, Class, Advance, Lower, Begin, Reuse, Insert, Update, Migrate, Return, Delete, Commit, Back, Ended, Move, Clean, RowPart, RowBody}
 use Rattle.redo_model.specs.AllowedRows.{at_place}
 
 abbrev pub small : Shape

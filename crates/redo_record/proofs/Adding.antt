@@ -1,11 +1,7 @@
 -- What was there stays in front.
-use Rattle.std.proofs.Common.{◌≡◌, ℕ, List, [], ◌++◌, length, take, sym, ap, ◌∙◌, append_assoc}
-use Rattle.std.proofs.lemmas.List.{append-nil}
-use Rattle.std.proofs.Math.Seq.{take-append_seam}
-use Rattle.seg_base.specs.declared.slot.Slot.{Slot}
-use Rattle.seg_base.specs.Images.{slot_bytes}
-use Rattle.redo_record.specs.Spelling.{image}
-use Rattle.redo_record.specs.Adding.{Begins}
+use Rattle.seg_words.proofs.Std.{◌≡◌, ℕ, List, [], ◌++◌, length, take, sym, ap, ◌∙◌, append_assoc, append-nil, take-append_seam}
+use Rattle.seg_words.specs.Types.{Slot, slot_bytes}
+use Rattle.redo_record.specs.Types.{image, Begins}
 
 pub begins_same : (a b : List ℕ) → b ≡ a → Begins a b
 begins_same a b e = record { more = []; parts = e ∙ sym (append-nil a) }

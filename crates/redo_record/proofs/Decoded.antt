@@ -1,18 +1,9 @@
 -- What stands at a place is read there.
-use Rattle.std.proofs.Common.{◌≡◌, ℕ, ◌+◌, ◌-◌, ◌≤◌, List, [], ◌∷◌, ◌++◌, length, drop, Option, Some, None, Err, refl, sym, ap, ◌∙◌, arith}
-use Rattle.std.proofs.lemmas.List.{drop_at, drop-drop, length-append}
-use Rattle.std.proofs.lemmas.List.Concat.{flat_map-cons}
-use Rattle.redo_record.specs.declared.record.Record.{Record}
-use Rattle.redo_record.specs.Spelling.{spelling}
-use Rattle.redo_record.specs.Spelled.{HasSpelling}
-use Rattle.redo_record.specs.Reading.{record_at}
-use Rattle.redo_record.specs.declared.fault.ReadFault.{ReadFault}
-use Rattle.redo_record.specs.declared.fault.ReadFault.TheVariants as faults
-use Rattle.redo_record.specs.Forms.{Reads}
-use Rattle.redo_record.specs.Decoding.{StandsAt, StandsInFront, IsFirst}
-use Rattle.redo_record.specs.Payloads.{payload, HaveSpellings}
+use Rattle.seg_words.proofs.Std.{◌≡◌, ℕ, ◌+◌, ◌-◌, ◌≤◌, List, [], ◌∷◌, ◌++◌, length, drop, Option, Some, None, Err, refl, sym, ap, ◌∙◌, arith, drop_at, drop-drop, length-append, flat_map-cons}
+use Rattle.redo_record.specs.Types.{Record, spelling, HasSpelling, record_at, ReadFault, Reads, StandsAt, StandsInFront, IsFirst, payload, HaveSpellings}
 use Rattle.redo_record.proofs.Laws.{IsBytes}
 use Rattle.redo_record.proofs.Records.{record_spells, one_spelling}
+use Rattle.redo_record.specs.declared.fault.ReadFault.TheVariants as faults
 
 pub rest_is_short : (bytes rest : List ℕ) (x : Record) → IsBytes bytes → record_at bytes ≡ Some (x, rest) → length rest ≤ length bytes
 rest_is_short bytes rest x are e =

@@ -1,19 +1,7 @@
 -- The forms of the fields of a record.
-use Rattle.std.proofs.Common.{◌≡◌, ℕ, zero, suc, ◌^◌, ◌<◌, ◌≤◌, Bool, true, false, cond, eqb, leb, ◌&&◌, List, [], ◌∷◌, ◌++◌, length, Option, Some, None, refl, sym, ap, subst, arith, inl, inr}
-use Rattle.std.specs.Int.{w32, w64}
-use Rattle.std.proofs.lemmas.Bool.{cases_Bool, eqb-true, eqb-false, ne_eqb, leb-true, le-leb}
-use Rattle.seg_base.specs.declared.slot.Slot.{Slot}
-use Rattle.seg_base.specs.declared.slot.Kind.{Kind}
-use Rattle.seg_base.specs.declared.slot.Kind.TheVariants.{Empty, Row, Head, Body}
-use Rattle.seg_base.specs.declared.slot.Writer.{Writer}
-use Rattle.seg_base.specs.declared.slot.Writer.TheVariants.{By, At}
-use Rattle.seg_base.specs.declared.slot.UndoAddr.{UndoAddr}
-use Rattle.seg_base.specs.declared.slot.Rowid.{Rowid}
-use Rattle.seg_base.specs.declared.undo.UndoPlace.{UndoPlace}
-use Rattle.seg_base.specs.Images.{kind_code, kind_from, writer_tag, writer_number, writer_from, undo_or_zeros, link_or_zeros}
-use Rattle.redo_record.specs.Spelling.{big_endian, address, flag, entry_code, block_or_zero, place_or_zeros, place_bytes, image}
-use Rattle.redo_record.specs.Spelled.{IsTableNumber, IsAddress, IsUndo, IsPlace, IsLink, IsBlock, IsEntry, IsImage}
-use Rattle.redo_record.specs.Reading.{is_obj, obj_at, is_code, code_at, flag_from, flag_at, entry_from, entry_at, block_from, block_at, address_of, address_at, undo_from, undo_at, place_from, place_at, link_from, link_at, kind_at, writer_at, slot_of, image_at}
+use Rattle.seg_words.proofs.Std.{◌≡◌, ℕ, zero, suc, ◌^◌, ◌<◌, ◌≤◌, Bool, true, false, cond, eqb, leb, ◌&&◌, List, [], ◌∷◌, ◌++◌, length, Option, Some, None, refl, sym, ap, subst, arith, inl, inr, w32, w64, cases_Bool, eqb-true, eqb-false, ne_eqb, leb-true, le-leb}
+use Rattle.seg_words.specs.Types.{Slot, Kind, Empty, Row, Head, Body, Writer, By, At, UndoAddr, Rowid, UndoPlace, kind_code, kind_from, writer_tag, writer_number, writer_from, undo_or_zeros, link_or_zeros, MOST_TABLES}
+use Rattle.redo_record.specs.Types.{big_endian, address, flag, entry_code, block_or_zero, place_or_zeros, place_bytes, image, IsTableNumber, IsAddress, IsUndo, IsPlace, IsLink, IsBlock, IsEntry, IsImage, is_obj, obj_at, is_code, code_at, flag_from, flag_at, entry_from, entry_at, block_from, block_at, address_of, address_at, undo_from, undo_at, place_from, place_at, link_from, link_at, kind_at, writer_at, slot_of, image_at}
 use Rattle.redo_record.proofs.Laws.{Spells, byte_spells, text_spells, spells16, spells32, spells64, both_spell, made_spell, chosen_spell, tested_spell, some_is, test_some}
 
 -- a conjunction of tests
@@ -26,8 +14,8 @@ and_true false false e = absurd cc
 pub obj_spells : Spells obj_at (λ n. n ∷ []) IsTableNumber
 unfolding obj_at
 obj_spells = tested_spell is_obj IsTableNumber byte_spells
-    (λ n h t. let p = and_true (leb 1 n) (leb n 32) t in (leb-true 1 n p.0, leb-true n 32 p.1))
-    (λ n h. rw (le-leb 1 n h.0, le-leb n 32 h.1) refl)
+    (λ n h t. let p = and_true (leb 1 n) (leb n MOST_TABLES) t in (leb-true 1 n p.0, leb-true n MOST_TABLES p.1))
+    (λ n h. rw (le-leb 1 n h.0, le-leb n MOST_TABLES h.1) refl)
     (λ n h. omega (arith, h.1))
 
 pub code_spells : Spells code_at (λ n. n ∷ []) (λ n. n ≤ 5)

@@ -1,10 +1,8 @@
 -- Reading so many values one after the other, as a loop does.
-use Rattle.std.proofs.Common.{◌≡◌, ℕ, suc, ◌-◌, ◌+◌, ◌≤◌, ◌<◌, List, [], ◌∷◌, ◌++◌, length, Option, Some, None, Result, Err, refl, sym, ap, ◌∙◌, append_assoc, arith}
-use Rattle.std.proofs.lemmas.List.{append-nil, length-append}
+use Rattle.seg_words.proofs.Std.{◌≡◌, ℕ, suc, ◌-◌, ◌+◌, ◌≤◌, ◌<◌, List, [], ◌∷◌, ◌++◌, length, Option, Some, None, Result, Err, refl, sym, ap, ◌∙◌, append_assoc, arith, append-nil, length-append}
 use Rattle.std.specs.Global.{Vec}
-use Rattle.redo_record.specs.declared.fault.ReadFault.{ReadFault}
+use Rattle.redo_record.specs.Types.{ReadFault, Reader, ◌>>=◌, many, Reads, ReadsItems}
 use Rattle.redo_record.specs.declared.fault.ReadFault.TheVariants as faults
-use Rattle.redo_record.specs.Forms.{Reader, ◌>>=◌, many, Reads, ReadsItems}
 
 -- what was read before, and what is still read
 abbrev pub with_front : {A : Type 0} → List A → Option (List A × List ℕ) → Option (List A × List ℕ)

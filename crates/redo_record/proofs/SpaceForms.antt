@@ -1,21 +1,13 @@
 -- The forms of the records that change tables and their space.
-use Rattle.std.proofs.Common.{◌≡◌, ℕ, zero, suc, ◌^◌, ◌<◌, ◌≤◌, true, leb, ◌&&◌, get_or, List, [], ◌∷◌, length, Some, None, refl, sym, ap, subst, arith}
-use Rattle.std.specs.Prelude.{slice_index_or}
-use Rattle.std.specs.List.{list_all}
-use Rattle.std.proofs.lemmas.Bool.{leb-true, le-leb}
-use Rattle.seg_base.specs.declared.class.Class as the
-use Rattle.seg_base.specs.declared.class.Class.TheVariants.{Unformatted, Full, Fs1, Fs2, Fs3, Fs4}
-use Rattle.seg_base.specs.Classes.{class_code, class_from}
-use Rattle.seg_base.specs.Words.{is_name, is_lower, is_name_byte}
-use Rattle.redo_record.specs.Forms.{byte, tested}
-use Rattle.redo_record.specs.Spelling.{table, movement, extend, format_block, class, advance, three_blocks, three_codes, extents, lower}
-use Rattle.redo_record.specs.Spelled.{IsBlock, IsTable, IsMovement, IsExtend, IsFormatBlock, IsClass, IsAdvance, IsThree, AreExtents, IsLower}
-use Rattle.redo_record.specs.Reading.{is_pctfree, name_from, name_at, table_of, table_at, movement_of, movement_at, extend_of, extend_at, format_block_of, format_block_at, class_code_at, class_of, class_at, advance_of, advance_at, three, three_blocks_at, three_codes_at, second, extents_at, lower_of, lower_at}
+use Rattle.seg_words.proofs.Std.{◌≡◌, ℕ, zero, suc, ◌^◌, ◌<◌, ◌≤◌, true, leb, ◌&&◌, get_or, List, [], ◌∷◌, length, Some, None, refl, sym, ap, subst, arith, slice_index_or, list_all, leb-true, le-leb}
+use Rattle.seg_words.specs.Types.{Unformatted, Full, Fs1, Fs2, Fs3, Fs4, class_code, class_from, is_name, is_lower, is_name_byte, MOST_PCTFREE, LONGEST_NAME}
+use Rattle.redo_record.specs.Types.{byte, tested, table, movement, extend, format_block, class, advance, three_blocks, three_codes, extents, lower, IsBlock, IsTable, IsMovement, IsExtend, IsFormatBlock, IsClass, IsAdvance, IsThree, AreExtents, IsLower, is_pctfree, name_from, name_at, table_of, table_at, movement_of, movement_at, extend_of, extend_at, format_block_of, format_block_at, class_code_at, class_of, class_at, advance_of, advance_at, three, three_blocks_at, three_codes_at, second, extents_at, lower_of, lower_at}
 use Rattle.redo_record.proofs.Laws.{Spells, byte_spells, text_spells, spells16, spells32, spells64, both_spell, made_spell, chosen_spell, tested_spell, many_spell, test_some, some_is}
 use Rattle.redo_record.proofs.FieldForms.{and_true, obj_spells, code_spells, flag_spells, block_spells}
+use Rattle.seg_base.specs.declared.class.Class as the
 
-pctfree_spells : Spells (tested is_pctfree byte) (λ n. n ∷ []) (λ n. n ≤ 50)
-pctfree_spells = tested_spell is_pctfree (λ n. n ≤ 50) byte_spells (λ n h t. leb-true n 50 t) (λ n h. le-leb n 50 h) (λ n h. omega (arith, h))
+pctfree_spells : Spells (tested is_pctfree byte) (λ n. n ∷ []) (λ n. n ≤ MOST_PCTFREE)
+pctfree_spells = tested_spell is_pctfree (λ n. n ≤ MOST_PCTFREE) byte_spells (λ n h t. leb-true n MOST_PCTFREE t) (λ n h. le-leb n MOST_PCTFREE h) (λ n h. omega (arith, h))
 
 abbrev IsName : List ℕ → Type 0
 IsName t = is_name t ≡ true
@@ -25,10 +17,10 @@ name_bytes t = length t ∷ t
 
 name_is_short : (t : List ℕ) → is_name t ≡ true → length t < 2 ^ 8
 name_is_short t h =
-    let a = and_true (leb 1 (length t) && leb (length t) 30 && is_lower (get_or t 0 0)) (list_all is_name_byte t) h in
-    let b = and_true (leb 1 (length t) && leb (length t) 30) (is_lower (get_or t 0 0)) a.0 in
-    let c = and_true (leb 1 (length t)) (leb (length t) 30) b.0 in
-    omega (arith, leb-true (length t) 30 c.1)
+    let a = and_true (leb 1 (length t) && leb (length t) LONGEST_NAME && is_lower (get_or t 0 0)) (list_all is_name_byte t) h in
+    let b = and_true (leb 1 (length t) && leb (length t) LONGEST_NAME) (is_lower (get_or t 0 0)) a.0 in
+    let c = and_true (leb 1 (length t)) (leb (length t) LONGEST_NAME) b.0 in
+    omega (arith, leb-true (length t) LONGEST_NAME c.1)
 
 name_only : (v : ℕ × List ℕ) (t : List ℕ) → ((v.0 < 2 ^ 8) × (length v.1 ≡ v.0)) → name_from v ≡ Some t → ((length t, t) ≡ v) × IsName t
 name_only v t fits e =

@@ -1,6 +1,6 @@
 -- Adding bytes at the end of others.
-use Rattle.std.specs.Prelude.{◌≡◌, List, ℕ, ◌++◌, Result, Ok, Err}
-use Rattle.seg_base.specs.declared.failure.NoMemory.{NoMemory}
+use Rattle.seg_words.specs.Std.{◌≡◌, List, ℕ, ◌++◌, Result, Ok, Err}
+use Rattle.seg_words.specs.Types.{NoMemory}
 
 -- some bytes begin with others
 pub record Begins (front bytes : List ℕ) : Type 0 where

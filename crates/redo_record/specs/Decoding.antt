@@ -1,12 +1,9 @@
 -- A record at a place of some bytes, and what decoding answers there.
-use Rattle.std.specs.Prelude.{◌≡◌, ℕ, ◌+◌, List, ◌++◌, length, drop, Result, Ok, Err}
-use Rattle.redo_record.specs.declared.record.Record.{Record}
-use Rattle.redo_record.specs.declared.fault.RecordFault.{RecordFault}
-use Rattle.redo_record.specs.declared.fault.RecordFault.TheVariants.{BadRecord, NoMemory}
-use Rattle.redo_record.specs.declared.fault.ReadFault.{ReadFault}
-use Rattle.redo_record.specs.declared.fault.ReadFault.TheVariants as faults
+use Rattle.seg_words.specs.Std.{◌≡◌, ℕ, ◌+◌, List, ◌++◌, length, drop, Result, Ok, Err}
+use Rattle.redo_record.specs.OwnTypes.{Record, RecordFault, BadRecord, NoMemory, ReadFault}
 use Rattle.redo_record.specs.Spelling.{spelling}
 use Rattle.redo_record.specs.Spelled.{HasSpelling}
+use Rattle.redo_record.specs.declared.fault.ReadFault.TheVariants as faults
 
 -- the spelling of a record stands at a place, and ends before the next one
 pub record StandsAt (rec : Record) (bytes : List ℕ) (at next : ℕ) : Type 0 where

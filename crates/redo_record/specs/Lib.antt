@@ -1,3 +1,4 @@
+pub mod OwnTypes
 pub mod Spelling
 pub mod Spelled
 pub mod Forms
@@ -5,3 +6,4 @@ pub mod Reading
 pub mod Adding
 pub mod Decoding
 pub mod Payloads
+pub mod Types

@@ -1,7 +1,6 @@
 -- Whole records one behind the other.
-use Rattle.std.specs.Prelude.{ℕ, List}
-use Rattle.std.specs.List.{flat_map, AllByRecursion}
-use Rattle.redo_record.specs.declared.record.Record.{Record}
+use Rattle.seg_words.specs.Std.{ℕ, List, flat_map, AllByRecursion}
+use Rattle.redo_record.specs.OwnTypes.{Record}
 use Rattle.redo_record.specs.Spelling.{spelling}
 use Rattle.redo_record.specs.Spelled.{HasSpelling}
 

@@ -1,41 +1,14 @@
 -- Reading redo records.
-use Rattle.std.specs.Prelude.{ℕ, zero, suc, Bool, true, false, ◌==◌, ◌&&◌, nat_le, List, [], ◌∷◌, Option, Some, None, is_none, if◌then◌else◌}
-use Rattle.std.specs.Int.{w16, w32, w64}
-use Rattle.seg_base.specs.declared.slot.Slot.{Slot}
-use Rattle.seg_base.specs.declared.slot.Kind.{Kind}
-use Rattle.seg_base.specs.declared.slot.Writer.{Writer}
-use Rattle.seg_base.specs.declared.slot.UndoAddr.{UndoAddr}
-use Rattle.seg_base.specs.declared.slot.Rowid.{Rowid}
-use Rattle.seg_base.specs.declared.undo.UndoPlace.{UndoPlace}
-use Rattle.seg_base.specs.declared.class.Class as the
-use Rattle.seg_base.specs.Classes.{class_from}
-use Rattle.seg_base.specs.Images.{kind_from, writer_from}
-use Rattle.seg_base.specs.Words.{is_name}
-use Rattle.redo_record.specs.declared.part.RowPart.{RowPart}
-use Rattle.redo_record.specs.declared.part.BackPart.{BackPart}
-use Rattle.redo_record.specs.declared.row.RowBody.{RowBody}
-use Rattle.redo_record.specs.declared.row.BackRecord.{BackRecord}
-use Rattle.redo_record.specs.declared.row.MoveRecord.{MoveRecord}
-use Rattle.redo_record.specs.declared.space.TableRecord.{TableRecord}
-use Rattle.redo_record.specs.declared.space.MovementRecord.{MovementRecord}
-use Rattle.redo_record.specs.declared.space.ExtendRecord.{ExtendRecord}
-use Rattle.redo_record.specs.declared.space.FormatBlockRecord.{FormatBlockRecord}
-use Rattle.redo_record.specs.declared.space.ClassRecord.{ClassRecord}
-use Rattle.redo_record.specs.declared.space.AdvanceRecord.{AdvanceRecord}
-use Rattle.redo_record.specs.declared.space.LowerRecord.{LowerRecord}
-use Rattle.redo_record.specs.declared.transaction.BeginRecord.{BeginRecord}
-use Rattle.redo_record.specs.declared.transaction.ReuseRecord.{ReuseRecord}
-use Rattle.redo_record.specs.declared.transaction.CommitRecord.{CommitRecord}
-use Rattle.redo_record.specs.declared.transaction.EndedRecord.{EndedRecord}
-use Rattle.redo_record.specs.declared.transaction.CleanRecord.{CleanRecord}
-use Rattle.redo_record.specs.declared.record.Record.{Record}
-use Rattle.redo_record.specs.declared.record.Record.TheVariants.{Table, Movement, Extend, FormatBlock, Class, Advance, Lower, Begin, Reuse, Insert, Update, Migrate, Return, Delete, Commit, Back, Ended, Move, Clean}
+use Rattle.seg_words.specs.Std.{ℕ, zero, suc, Bool, true, false, ◌==◌, ◌&&◌, nat_le, List, [], ◌∷◌, Option, Some, None, is_none, if◌then◌else◌, w16, w32, w64}
+use Rattle.seg_words.specs.Types.{Slot, Kind, Writer, UndoAddr, Rowid, UndoPlace, class_from, kind_from, writer_from, is_name, MOST_PCTFREE, MOST_TABLES}
+use Rattle.redo_record.specs.OwnTypes.{RowPart, BackPart, RowBody, BackRecord, MoveRecord, TableRecord, MovementRecord, ExtendRecord, FormatBlockRecord, ClassRecord, AdvanceRecord, LowerRecord, BeginRecord, ReuseRecord, CommitRecord, EndedRecord, CleanRecord, Record, Table, Movement, Extend, FormatBlock, Class, Advance, Lower, Begin, Reuse, Insert, Update, Migrate, Return, Delete, Commit, Back, Ended, Move, Clean}
 use Rattle.redo_record.specs.Forms.{Reader, ◌>>=◌, byte, number, text, both, chosen, made, tested, many}
+use Rattle.seg_base.specs.declared.class.Class as the
 
 -- ---- fields
 
 abbrev pub is_obj : ℕ → Bool
-is_obj n = nat_le 1 n && nat_le n 32
+is_obj n = nat_le 1 n && nat_le n MOST_TABLES
 
 unfoldable pub obj_at : Reader ℕ
 obj_at = tested is_obj byte
@@ -154,7 +127,7 @@ move_at = chosen move_from (both row_body_at (λ _. number w64))
 -- ---- tables and their space
 
 abbrev pub is_pctfree : ℕ → Bool
-is_pctfree n = nat_le n 50
+is_pctfree n = nat_le n MOST_PCTFREE
 
 abbrev pub name_from : ℕ × List ℕ → Option (List ℕ)
 name_from v = if is_name v.1 then Some v.1 else None

@@ -1,35 +1,11 @@
 -- Which records have a spelling: each number is in the range of its field, a row's length and each count too, and an
 -- address or a block that is there isn't written as none.
-use Rattle.std.specs.Prelude.{◌≡◌, ℕ, ◌<◌, ◌≤◌, ◌^◌, true, List, length, Option, Some, None}
-use Rattle.std.specs.List.{AllByRecursion}
-use Rattle.seg_base.specs.declared.slot.Slot.{Slot}
-use Rattle.seg_base.specs.declared.slot.UndoAddr.{UndoAddr}
-use Rattle.seg_base.specs.declared.slot.Rowid.{Rowid}
-use Rattle.seg_base.specs.declared.undo.UndoPlace.{UndoPlace}
-use Rattle.seg_base.specs.Images.{writer_number}
-use Rattle.seg_base.specs.Words.{is_name}
-use Rattle.redo_record.specs.declared.part.RowPart.{RowPart}
-use Rattle.redo_record.specs.declared.part.BackPart.{BackPart}
-use Rattle.redo_record.specs.declared.row.RowBody.{RowBody}
-use Rattle.redo_record.specs.declared.row.BackRecord.{BackRecord}
-use Rattle.redo_record.specs.declared.row.MoveRecord.{MoveRecord}
-use Rattle.redo_record.specs.declared.space.TableRecord.{TableRecord}
-use Rattle.redo_record.specs.declared.space.MovementRecord.{MovementRecord}
-use Rattle.redo_record.specs.declared.space.ExtendRecord.{ExtendRecord}
-use Rattle.redo_record.specs.declared.space.FormatBlockRecord.{FormatBlockRecord}
-use Rattle.redo_record.specs.declared.space.ClassRecord.{ClassRecord}
-use Rattle.redo_record.specs.declared.space.AdvanceRecord.{AdvanceRecord}
-use Rattle.redo_record.specs.declared.space.LowerRecord.{LowerRecord}
-use Rattle.redo_record.specs.declared.transaction.BeginRecord.{BeginRecord}
-use Rattle.redo_record.specs.declared.transaction.ReuseRecord.{ReuseRecord}
-use Rattle.redo_record.specs.declared.transaction.CommitRecord.{CommitRecord}
-use Rattle.redo_record.specs.declared.transaction.EndedRecord.{EndedRecord}
-use Rattle.redo_record.specs.declared.transaction.CleanRecord.{CleanRecord}
-use Rattle.redo_record.specs.declared.record.Record.{Record}
-use Rattle.redo_record.specs.declared.record.Record.TheVariants.{Table, Movement, Extend, FormatBlock, Class, Advance, Lower, Begin, Reuse, Insert, Update, Migrate, Return, Delete, Commit, Back, Ended, Move, Clean}
+use Rattle.seg_words.specs.Std.{◌≡◌, ℕ, ◌<◌, ◌≤◌, ◌^◌, true, List, length, Option, Some, None, AllByRecursion}
+use Rattle.seg_words.specs.Types.{Slot, UndoAddr, Rowid, UndoPlace, writer_number, is_name, MOST_PCTFREE, MOST_TABLES}
+use Rattle.redo_record.specs.OwnTypes.{RowPart, BackPart, RowBody, BackRecord, MoveRecord, TableRecord, MovementRecord, ExtendRecord, FormatBlockRecord, ClassRecord, AdvanceRecord, LowerRecord, BeginRecord, ReuseRecord, CommitRecord, EndedRecord, CleanRecord, Record, Table, Movement, Extend, FormatBlock, Class, Advance, Lower, Begin, Reuse, Insert, Update, Migrate, Return, Delete, Commit, Back, Ended, Move, Clean}
 
 abbrev pub IsTableNumber : ℕ → Type 0
-IsTableNumber n = (1 ≤ n) × (n ≤ 32)
+IsTableNumber n = (1 ≤ n) × (n ≤ MOST_TABLES)
 
 abbrev pub IsAddress : UndoAddr → Type 0
 IsAddress a = (a.block < 2 ^ 32) × ((a.seq < 2 ^ 64) × (a.nth < 2 ^ 8))
@@ -109,7 +85,7 @@ pub record IsMove (m : MoveRecord) : Type 0 where
 pub record IsTable (t : TableRecord) : Type 0 where
   pub obj : IsTableNumber t.obj
   pub header : t.header < 2 ^ 32
-  pub pctfree : t.pctfree ≤ 50
+  pub pctfree : t.pctfree ≤ MOST_PCTFREE
   pub name : is_name t.name ≡ true
 
 pub record IsMovement (m : MovementRecord) : Type 0 where

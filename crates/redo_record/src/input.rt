@@ -1,11 +1,10 @@
 // Bytes that are read from left to right, and the plain fields.
-ghost use Rattle.std.specs.Prelude.{◌≡◌};
-ghost use Rattle.std.specs.Int.{w16, w32, w64};
+ghost use Rattle.seg_words.specs.Std.{◌≡◌, w16, w32, w64};
 ghost use Rattle.redo_record.specs.Forms.{Reads, ReadsBytes, byte, number, text};
 ghost use Rattle.redo_record.specs.Reading.{obj_at, code_at, flag_at, entry_at, block_at};
 
 use crate::fault::ReadFault;
-use seg_base::{Dba, Obj, Text};
+use seg_base::{Dba, MOST_TABLES, Obj, Text};
 use std::alloc::Global;
 use std::marker::Model;
 
@@ -16,7 +15,7 @@ pub struct Input<'a> {
 }
 
 impl<'a> Model for Input<'a> {
-    ghost use Rattle.std.specs.Prelude.{List, ℕ};
+    ghost use Rattle.seg_words.specs.Std.{List, ℕ};
 
     ghost Value = { List ℕ };
 
@@ -106,7 +105,7 @@ impl<'a> Input<'a> {
         ensures { Reads result self.new (obj_at self.old) }
     {
         let number = self.byte()?;
-        if number == 0 || number > 32 {
+        if number == 0 || number > MOST_TABLES {
             return Err(ReadFault::NotARecord);
         }
         Ok(Obj(number))

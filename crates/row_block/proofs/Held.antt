@@ -1,22 +1,9 @@
 -- What keeps a block on its page.
-use Rattle.std.proofs.Common.{◌≡◌, ℕ, suc, ◌+◌, ◌-◌, ◌*◌, ◌<◌, ◌≤◌, max, Bool, true, cond, ltb, leb, ◌&&◌, List, [], ◌∷◌, length, get_or, map, inl, inr, Option, Some, None, refl, sym, ap, ◌∙◌, arith, zero}
-use Rattle.std.specs.List.{sum_by, AllByRecursion}
-use Rattle.std.specs.Prelude.{All}
-use Rattle.std.proofs.lemmas.Bool.{cases_Bool, cases_lt, le-leb}
-use Rattle.std.proofs.lemmas.Bool.Decides.{nat_tests}
-use Rattle.std.proofs.lemmas.List.{length-map}
-use Rattle.std.proofs.lemmas.List.Elements.{All-set, All-push, recursion_from_All, All-from_recursion}
-use Rattle.std.proofs.lemmas.List.Sums.{sum_by-cons, sum_by-set, sum_by_push, get_or-le-sum_by}
-use Rattle.seg_base.specs.declared.slot.Slot.{Slot}
-use Rattle.seg_base.specs.declared.slot.ListEntry.{ListEntry}
-use Rattle.seg_base.specs.declared.slot.Writer.{Writer}
-use Rattle.seg_base.specs.declared.slot.Writer.TheVariants.{By, At}
-use Rattle.seg_base.specs.Blocks.{Block, new_slot, new_entry, put, put_slot, put_entry}
-use Rattle.seg_base.specs.Room.{writer_has_ended, slot_size, used_of, free_of, entry_for}
-use Rattle.seg_base.specs.Cleaning.{number_of_writer, as_told, clean_slot, clean_entry, clean_block}
+use Rattle.seg_words.proofs.Std.{◌≡◌, ℕ, suc, ◌+◌, ◌-◌, ◌*◌, ◌<◌, ◌≤◌, max, Bool, true, cond, ltb, leb, ◌&&◌, List, [], ◌∷◌, length, get_or, map, inl, inr, Option, Some, None, refl, sym, ap, ◌∙◌, arith, zero, sum_by, AllByRecursion, All, cases_Bool, cases_lt, le-leb, nat_tests, length-map, All-set, All-push, recursion_from_All, All-from_recursion, sum_by-cons, sum_by-set, sum_by_push, get_or-le-sum_by}
+use Rattle.seg_words.specs.Types.{Slot, ListEntry, Writer, By, At, Block, new_slot, new_entry, put, put_slot, put_entry, writer_has_ended, slot_size, used_of, free_of, entry_for, number_of_writer, as_told, clean_slot, clean_entry, clean_block, BLOCK_ROOM, SLOT_SIZE, MOST_SLOTS, LIST_ENTRY_SIZE, LEAST_LIST_ENTRIES, MOST_LIST_ENTRIES}
 use Rattle.seg_base.proofs.Puts.{put_set, put_push, length-put}
 use Rattle.seg_base.proofs.Rooms.{entry_for-within}
-use Rattle.row_block.specs.RowPage.{RowPage, laid_out, IsImage, IsHeld, CanPut, CanEnter, counted, growth_of, need_of}
+use Rattle.row_block.specs.Types.{RowPage, laid_out, IsImage, IsHeld, CanPut, CanEnter, counted, growth_of, need_of}
 
 abbrev pub Roomy : Slot → Type 0
 Roomy s = length s.bytes ≤ s.room
@@ -25,7 +12,7 @@ all_ended : (w : Writer) → writer_has_ended (λ t. true) w ≡ true
 all_ended (By t) = refl
 all_ended (At c) = refl
 
-pub laid_size : (s : Slot) → slot_size (λ t. true) s ≡ 40 + length s.bytes
+pub laid_size : (s : Slot) → slot_size (λ t. true) s ≡ SLOT_SIZE + length s.bytes
 laid_size s = rw (all_ended s.writer) refl
 
 -- a slot counts at least what it takes on the page
@@ -74,7 +61,7 @@ held_put b k image h can = record {
 }
 
 -- an image for which the bytes are free can be put
-normal : (ended : ℕ → Bool) (b : Block) (k : ℕ) (image : Slot) → IsHeld b → k ≤ length b.slots → Roomy image → used_of ended b ≤ 4032 → growth_of ended b k image ≤ free_of ended b → laid_out (put_slot k image b) ≤ 4032
+normal : (ended : ℕ → Bool) (b : Block) (k : ℕ) (image : Slot) → IsHeld b → k ≤ length b.slots → Roomy image → used_of ended b ≤ BLOCK_ROOM → growth_of ended b k image ≤ free_of ended b → laid_out (put_slot k image b) ≤ BLOCK_ROOM
 normal ended b k image h at bytes used fits = omega (
   arith,
   used_put ended b k image at,
@@ -82,23 +69,23 @@ normal ended b k image h at bytes used fits = omega (
   laid_out-le-used ended (put_slot k image b) (roomy_put b.slots k image at bytes h.rooms),
 )
 
-crowded : (ended : ℕ → Bool) (b : Block) (k : ℕ) (image : Slot) → IsHeld b → k ≤ length b.slots → 4032 < used_of ended b → growth_of (λ t. true) b k image ≤ free_of ended b → laid_out (put_slot k image b) ≤ 4032
+crowded : (ended : ℕ → Bool) (b : Block) (k : ℕ) (image : Slot) → IsHeld b → k ≤ length b.slots → BLOCK_ROOM < used_of ended b → growth_of (λ t. true) b k image ≤ free_of ended b → laid_out (put_slot k image b) ≤ BLOCK_ROOM
 crowded ended b k image h at used fits = omega (arith, used_put (λ t. true) b k image at, counted-le-used (λ t. true) b k, h.size)
 
-pub can_set : (ended : ℕ → Bool) (b : Block) (k : ℕ) (image : Slot) (need free : ℕ) → IsHeld b → k ≤ length b.slots → k < 100 → IsImage image → need ≡ need_of ended b k image → free ≡ free_of ended b → need ≤ free → CanPut b k image
+pub can_set : (ended : ℕ → Bool) (b : Block) (k : ℕ) (image : Slot) (need free : ℕ) → IsHeld b → k ≤ length b.slots → k < MOST_SLOTS → IsImage image → need ≡ need_of ended b k image → free ≡ free_of ended b → need ≤ free → CanPut b k image
 can_set ended b k image need free h at most is n f le = record {
   at = at;
   most = most;
   bytes = is.bytes;
-  size = elim (cases_Bool (leb (used_of ended b) 4032)) [
+  size = elim (cases_Bool (leb (used_of ended b) BLOCK_ROOM)) [
     | inl y ↦ (let fits : growth_of ended b k image ≤ free_of ended b = rw (n, f, y) at le in normal ended b k image h at is.bytes (grind (arith, nat_tests)) fits)
     | inr z ↦ (let fits : growth_of (λ t. true) b k image ≤ free_of ended b = rw (n, f, z) at le in crowded ended b k image h at (grind (arith, nat_tests)) fits)
   ];
 }
 
 -- list entries
-pub used_enter : (ended : ℕ → Bool) (b : Block) (i : ℕ) (e : ListEntry) → used_of ended (put_entry i e b) ≡ sum_by (slot_size ended) b.slots + 24 * (max (suc i) (length b.entries) - 2)
-used_enter ended b i e = ap (λ (n : ℕ). sum_by (slot_size ended) b.slots + 24 * (n - 2)) (length-put new_entry b.entries i e)
+pub used_enter : (ended : ℕ → Bool) (b : Block) (i : ℕ) (e : ListEntry) → used_of ended (put_entry i e b) ≡ sum_by (slot_size ended) b.slots + LIST_ENTRY_SIZE * (max (suc i) (length b.entries) - 2)
+used_enter ended b i e = ap (λ (n : ℕ). sum_by (slot_size ended) b.slots + LIST_ENTRY_SIZE * (n - LEAST_LIST_ENTRIES)) (length-put new_entry b.entries i e)
 
 pub held_enter : (b : Block) (i : ℕ) (e : ListEntry) → IsHeld b → CanEnter b i → IsHeld (put_entry i e b)
 held_enter b i e h can = record {
@@ -110,33 +97,33 @@ held_enter b i e h can = record {
 }
 
 -- an entry behind the last one is had only where 24 bytes are free
-made_room : (n i room : ℕ) → cond (ltb n 8 && leb 24 room) (Some n) None ≡ Some i → 24 ≤ room
+made_room : (n i room : ℕ) → cond (ltb n MOST_LIST_ENTRIES && leb LIST_ENTRY_SIZE room) (Some n) None ≡ Some i → LIST_ENTRY_SIZE ≤ room
 made_room n i room e = grind (arith, nat_tests)
 
 same : (a b : ℕ) → Some a ≡ Some b → a ≡ b
 same a b e = cc
 
-other_room : (q n i room : ℕ) → i ≡ n → cond (ltb q n) (Some q) (cond (ltb n 8 && leb 24 room) (Some n) None) ≡ Some i → 24 ≤ room
+other_room : (q n i room : ℕ) → i ≡ n → cond (ltb q n) (Some q) (cond (ltb n MOST_LIST_ENTRIES && leb LIST_ENTRY_SIZE room) (Some n) None) ≡ Some i → LIST_ENTRY_SIZE ≤ room
 other_room q n i room last e = elim (cases_Bool (ltb q n)) [
   | inl y ↦ absurd (let k : q ≡ i = same q i (rw y at e) in let l : q < n = grind (arith, nat_tests) in omega arith)
-  | inr f ↦ (let d : cond (ltb n 8 && leb 24 room) (Some n) None ≡ Some i = rw f at e in made_room n i room d)
+  | inr f ↦ (let d : cond (ltb n MOST_LIST_ENTRIES && leb LIST_ENTRY_SIZE room) (Some n) None ≡ Some i = rw f at e in made_room n i room d)
 ]
 
-own_room : (p q n i room : ℕ) → i ≡ n → cond (ltb p n) (Some p) (cond (ltb q n) (Some q) (cond (ltb n 8 && leb 24 room) (Some n) None)) ≡ Some i → 24 ≤ room
+own_room : (p q n i room : ℕ) → i ≡ n → cond (ltb p n) (Some p) (cond (ltb q n) (Some q) (cond (ltb n MOST_LIST_ENTRIES && leb LIST_ENTRY_SIZE room) (Some n) None)) ≡ Some i → LIST_ENTRY_SIZE ≤ room
 own_room p q n i room last e = elim (cases_Bool (ltb p n)) [
   | inl y ↦ absurd (let k : p ≡ i = same p i (rw y at e) in let l : p < n = grind (arith, nat_tests) in omega arith)
-  | inr f ↦ (let d : cond (ltb q n) (Some q) (cond (ltb n 8 && leb 24 room) (Some n) None) ≡ Some i = rw f at e in other_room q n i room last d)
+  | inr f ↦ (let d : cond (ltb q n) (Some q) (cond (ltb n MOST_LIST_ENTRIES && leb LIST_ENTRY_SIZE room) (Some n) None) ≡ Some i = rw f at e in other_room q n i room last d)
 ]
 
 pub can_enter_for : (ended : ℕ → Bool) (b : Block) (t i : ℕ) → IsHeld b → entry_for ended b t ≡ Some i → CanEnter b i
 can_enter_for ended b t i h e =
-    let within : (i ≤ length b.entries) × (i < 8) = entry_for-within ended b t i h.entries e in
+    let within : (i ≤ length b.entries) × (i < MOST_LIST_ENTRIES) = entry_for-within ended b t i h.entries e in
     record {
       at = within.0;
       most = within.1;
       size = elim (cases_lt i (length b.entries)) [
         | inl lt ↦ omega (arith, used_enter (λ t. true) b i new_entry, h.size)
-        | inr le ↦ (let last : i ≡ length b.entries = omega arith in let free : 24 ≤ free_of ended b = own_room _ _ _ _ _ last e in
+        | inr le ↦ (let last : i ≡ length b.entries = omega arith in let free : LIST_ENTRY_SIZE ≤ free_of ended b = own_room _ _ _ _ _ last e in
             omega (arith, used_enter (λ t. true) b i new_entry, laid_out-le-used ended b h.rooms))
       ];
     }
@@ -156,7 +143,7 @@ cleaned_sizes : (cs : List (ℕ × ℕ)) (ss : List Slot) → sum_by (slot_size 
 cleaned_sizes cs [] = refl
 cleaned_sizes cs (s ∷ ss) =
     let one : slot_size (λ t. true) (clean_slot cs s) ≡ slot_size (λ t. true) s
-    = laid_size (clean_slot cs s) ∙ ap (λ (x : List ℕ). 40 + length x) (told_bytes s (number_of_writer cs s.writer)) ∙ sym (laid_size s) in
+    = laid_size (clean_slot cs s) ∙ ap (λ (x : List ℕ). SLOT_SIZE + length x) (told_bytes s (number_of_writer cs s.writer)) ∙ sym (laid_size s) in
     omega (arith, sum_by-cons (slot_size (λ t. true)) (clean_slot cs s) (map (clean_slot cs) ss), sum_by-cons (slot_size (λ t. true)) s ss, one, cleaned_sizes cs ss)
 
 cleaned_rooms : (cs : List (ℕ × ℕ)) (ss : List Slot) → AllByRecursion Roomy ss → AllByRecursion Roomy (map (clean_slot cs) ss)
@@ -173,22 +160,22 @@ held_clean cs b h = record {
 }
 
 -- the tests of a change
-pub can_enter_old : (b : Block) (i : ℕ) → IsHeld b → i < length b.entries → i < 8 → (true ≡ true → CanEnter b i) × (CanEnter b i → true ≡ true)
+pub can_enter_old : (b : Block) (i : ℕ) → IsHeld b → i < length b.entries → i < MOST_LIST_ENTRIES → (true ≡ true → CanEnter b i) × (CanEnter b i → true ≡ true)
 can_enter_old b i h lt most = ((λ _. record { at = omega arith; most = most; size = omega (arith, used_enter (λ t. true) b i new_entry, h.size) }), λ _. refl)
 
-pub can_enter_new : (b : Block) (i used : ℕ) → IsHeld b → i ≤ length b.entries → length b.entries ≤ i → i < 8 → used ≡ laid_out b → (leb (used + 24) 4032 ≡ true → CanEnter b i) × (CanEnter b i → leb (used + 24) 4032 ≡ true)
+pub can_enter_new : (b : Block) (i used : ℕ) → IsHeld b → i ≤ length b.entries → length b.entries ≤ i → i < MOST_LIST_ENTRIES → used ≡ laid_out b → (leb (used + LIST_ENTRY_SIZE) BLOCK_ROOM ≡ true → CanEnter b i) × (CanEnter b i → leb (used + LIST_ENTRY_SIZE) BLOCK_ROOM ≡ true)
 can_enter_new b i used h at last most is = (
-  (λ t. record { at = at; most = most; size = (let le : used + 24 ≤ 4032 = grind (arith, nat_tests) in omega (arith, used_enter (λ t. true) b i new_entry, h.least)) }),
-  λ can. le-leb (used + 24) 4032 (omega (arith, used_enter (λ t. true) b i new_entry, can.size, h.least)),
+  (λ t. record { at = at; most = most; size = (let le : used + LIST_ENTRY_SIZE ≤ BLOCK_ROOM = grind (arith, nat_tests) in omega (arith, used_enter (λ t. true) b i new_entry, h.least)) }),
+  λ can. le-leb (used + LIST_ENTRY_SIZE) BLOCK_ROOM (omega (arith, used_enter (λ t. true) b i new_entry, can.size, h.least)),
 )
 
-pub can_put_test : (b : Block) (k : ℕ) (image : Slot) (used count len : ℕ) → k ≤ length b.slots → k < 100 → len ≤ image.room → len ≡ length image.bytes → used ≡ laid_out b → count ≡ counted (λ t. true) b k
-    → (leb (used - count + 40 + len) 4032 ≡ true → CanPut b k image) × (CanPut b k image → leb (used - count + 40 + len) 4032 ≡ true)
+pub can_put_test : (b : Block) (k : ℕ) (image : Slot) (used count len : ℕ) → k ≤ length b.slots → k < MOST_SLOTS → len ≤ image.room → len ≡ length image.bytes → used ≡ laid_out b → count ≡ counted (λ t. true) b k
+    → (leb (used - count + SLOT_SIZE + len) BLOCK_ROOM ≡ true → CanPut b k image) × (CanPut b k image → leb (used - count + SLOT_SIZE + len) BLOCK_ROOM ≡ true)
 can_put_test b k image used count len at most roomy l u c =
-    let put : laid_out (put_slot k image b) + counted (λ t. true) b k ≡ laid_out b + (40 + length image.bytes) = used_put (λ t. true) b k image at ∙ ap (λ (n : ℕ). laid_out b + n) (laid_size image) in
-    let sum : laid_out (put_slot k image b) ≡ used - count + 40 + len = omega (arith, put, counted-le-used (λ t. true) b k, l, u, c) in (
-      (λ t. record { at = at; most = most; bytes = omega arith; size = (let le : used - count + 40 + len ≤ 4032 = grind (arith, nat_tests) in omega arith) }),
-      λ can. le-leb (used - count + 40 + len) 4032 (omega (arith, can.size)),
+    let put : laid_out (put_slot k image b) + counted (λ t. true) b k ≡ laid_out b + (SLOT_SIZE + length image.bytes) = used_put (λ t. true) b k image at ∙ ap (λ (n : ℕ). laid_out b + n) (laid_size image) in
+    let sum : laid_out (put_slot k image b) ≡ used - count + SLOT_SIZE + len = omega (arith, put, counted-le-used (λ t. true) b k, l, u, c) in (
+      (λ t. record { at = at; most = most; bytes = omega arith; size = (let le : used - count + SLOT_SIZE + len ≤ BLOCK_ROOM = grind (arith, nat_tests) in omega arith) }),
+      λ can. le-leb (used - count + SLOT_SIZE + len) BLOCK_ROOM (omega (arith, can.size)),
     )
 
 -- the same over what the code holds

@@ -1,43 +1,33 @@
 -- Slots read one after the other; their rows take no more than was there.
-use Rattle.std.proofs.Common.{◌≡◌, ℕ, zero, suc, ◌+◌, ◌-◌, ◌*◌, ◌<◌, ◌≤◌, List, [], ◌∷◌, ◌++◌, length, take, drop, refl, sym, ap, ◌∙◌, append_assoc, arith}
-use Rattle.std.specs.List.{flat_map, AllByRecursion}
-use Rattle.std.proofs.lemmas.List.{append-nil, length-drop, length-take, length-append}
-use Rattle.std.proofs.lemmas.List.Concat.{flat_map-cons}
-use Rattle.std.proofs.lemmas.List.Elements.{All-from_recursion}
-use Rattle.seg_base.specs.declared.slot.Slot.{Slot}
-use Rattle.seg_base.specs.declared.slot.ListEntry.{ListEntry}
-use Rattle.seg_base.specs.declared.slot.Writer.{Writer}
-use Rattle.seg_base.specs.declared.slot.Writer.TheVariants.{By, At}
+use Rattle.seg_words.proofs.Std.{◌≡◌, ℕ, zero, suc, ◌+◌, ◌-◌, ◌*◌, ◌<◌, ◌≤◌, List, [], ◌∷◌, ◌++◌, length, take, drop, refl, sym, ap, ◌∙◌, append_assoc, arith, flat_map, AllByRecursion, append-nil, length-drop, length-take, length-append, flat_map-cons, All-from_recursion}
+use Rattle.seg_words.specs.Types.{Slot, ListEntry, Writer, By, At, BLOCK_SIZE, PAGE_HEAD_SIZE, SLOT_SIZE, MOST_SLOTS, LIST_ENTRY_SIZE, LEAST_LIST_ENTRIES, MOST_LIST_ENTRIES}
 use Rattle.page_bytes.specs.declared.slot.SlotFields.{SlotFields}
-use Rattle.page_bytes.specs.Pieces.{pieces_in}
-use Rattle.page_bytes.specs.Slots.{fields_in, row_len, slot_as, room_as, writer_as}
-use Rattle.page_bytes.specs.Entries.{entry_from}
+use Rattle.page_bytes.specs.Types.{pieces_in, fields_in, row_len, slot_as, room_as, writer_as, entry_from}
 use Rattle.page_bytes.proofs.PiecesIn.{length-pieces_in}
-use Rattle.row_block.specs.RowPage.{IsHeld}
-use Rattle.row_block.specs.Spelling.{row_bytes, slots_in}
+use Rattle.row_block.specs.Types.{IsHeld, row_bytes, slots_in}
 use Rattle.row_block.specs.Again.{laid_sizes}
 
 -- a loop that has read the first i slots
 pub record Reads (count i : ℕ) (front : List Slot) (groups rows : List ℕ) (all : List Slot) : Type 0 where
-  pub long : 40 * (count - i) ≤ length groups
+  pub long : SLOT_SIZE * (count - i) ≤ length groups
   pub same : front ++ slots_in (count - i) groups rows ≡ all
 
 step : (n k : ℕ) (groups rows : List ℕ) → k ≡ suc n
-    → slots_in k groups rows ≡ slot_as (fields_in (take 40 groups)) (take (row_len (fields_in (take 40 groups))) rows) ∷ slots_in n (drop 40 groups) (drop (row_len (fields_in (take 40 groups))) rows)
+    → slots_in k groups rows ≡ slot_as (fields_in (take SLOT_SIZE groups)) (take (row_len (fields_in (take SLOT_SIZE groups))) rows) ∷ slots_in n (drop SLOT_SIZE groups) (drop (row_len (fields_in (take SLOT_SIZE groups))) rows)
 unfolding slots_in
 step n k groups rows e = rw e refl
 
-pub one_read : (count i : ℕ) (front front' : List Slot) (groups group more rows row others : List ℕ) (f : SlotFields) (len : ℕ) (s : Slot) (all : List Slot) → i < count → group ≡ take 40 groups → more ≡ drop 40 groups → f ≡ fields_in group → len ≡ row_len f → row ≡ take len rows → others ≡ drop len rows
+pub one_read : (count i : ℕ) (front front' : List Slot) (groups group more rows row others : List ℕ) (f : SlotFields) (len : ℕ) (s : Slot) (all : List Slot) → i < count → group ≡ take SLOT_SIZE groups → more ≡ drop SLOT_SIZE groups → f ≡ fields_in group → len ≡ row_len f → row ≡ take len rows → others ≡ drop len rows
     → s ≡ slot_as f row → front' ≡ front ++ s ∷ [] → Reads count i front groups rows all → Reads count (i + 1) front' more others all
 one_read count i front front' groups group more rows row others f len s all lt g m r n w d v p h =
-    let fields : f ≡ fields_in (take 40 groups) = r ∙ ap fields_in g in
-    let len_is : len ≡ row_len (fields_in (take 40 groups)) = n ∙ ap (λ (x : SlotFields). row_len x) fields in
-    let row_is : row ≡ take (row_len (fields_in (take 40 groups))) rows = w ∙ ap (λ (x : ℕ). take x rows) len_is in
-    let slot_is : s ≡ slot_as (fields_in (take 40 groups)) (take (row_len (fields_in (take 40 groups))) rows) = v ∙ ap (slot_as f) row_is ∙ ap (λ (x : SlotFields). slot_as x (take (row_len (fields_in (take 40 groups))) rows)) fields in
-    let rest_is : others ≡ drop (row_len (fields_in (take 40 groups))) rows = d ∙ ap (λ (x : ℕ). drop x rows) len_is in
-    let rest : List Slot = slots_in (count - (i + 1)) (drop 40 groups) (drop (row_len (fields_in (take 40 groups))) rows) in
+    let fields : f ≡ fields_in (take SLOT_SIZE groups) = r ∙ ap fields_in g in
+    let len_is : len ≡ row_len (fields_in (take SLOT_SIZE groups)) = n ∙ ap (λ (x : SlotFields). row_len x) fields in
+    let row_is : row ≡ take (row_len (fields_in (take SLOT_SIZE groups))) rows = w ∙ ap (λ (x : ℕ). take x rows) len_is in
+    let slot_is : s ≡ slot_as (fields_in (take SLOT_SIZE groups)) (take (row_len (fields_in (take SLOT_SIZE groups))) rows) = v ∙ ap (slot_as f) row_is ∙ ap (λ (x : SlotFields). slot_as x (take (row_len (fields_in (take SLOT_SIZE groups))) rows)) fields in
+    let rest_is : others ≡ drop (row_len (fields_in (take SLOT_SIZE groups))) rows = d ∙ ap (λ (x : ℕ). drop x rows) len_is in
+    let rest : List Slot = slots_in (count - (i + 1)) (drop SLOT_SIZE groups) (drop (row_len (fields_in (take SLOT_SIZE groups))) rows) in
     rw (p, m, rest_is) (record {
-      long = omega (arith, length-drop 40 groups, h.long);
+      long = omega (arith, length-drop SLOT_SIZE groups, h.long);
       same = append_assoc front (s ∷ []) rest ∙ ap (λ (x : Slot). front ++ x ∷ rest) slot_is
           ∙ ap (λ (x : List Slot). front ++ x) (sym (step (count - (i + 1)) (count - i) groups rows (omega arith))) ∙ h.same;
     })
@@ -52,17 +42,17 @@ all_read count i front groups rows all le h =
 length-slots_in : (n : ℕ) (groups rows : List ℕ) → length (slots_in n groups rows) ≡ n
 unfolding slots_in
 length-slots_in zero groups rows = refl
-length-slots_in (suc n) groups rows = ap suc (length-slots_in n (drop 40 groups) (drop (row_len (fields_in (take 40 groups))) rows))
+length-slots_in (suc n) groups rows = ap suc (length-slots_in n (drop SLOT_SIZE groups) (drop (row_len (fields_in (take SLOT_SIZE groups))) rows))
 
 rows_fit : (n : ℕ) (groups rows : List ℕ) → length (flat_map row_bytes (slots_in n groups rows)) ≤ length rows
 unfolding slots_in
 rows_fit zero groups rows = omega arith
 rows_fit (suc n) groups rows =
-    let f : SlotFields = fields_in (take 40 groups) in
-    let rest : List Slot = slots_in n (drop 40 groups) (drop (row_len f) rows) in
+    let f : SlotFields = fields_in (take SLOT_SIZE groups) in
+    let rest : List Slot = slots_in n (drop SLOT_SIZE groups) (drop (row_len f) rows) in
     let one : length (flat_map row_bytes (slot_as f (take (row_len f) rows) ∷ rest)) ≡ length (take (row_len f) rows) + length (flat_map row_bytes rest)
     = ap (λ (x : List ℕ). length x) (flat_map-cons row_bytes (slot_as f (take (row_len f) rows)) rest) ∙ length-append (take (row_len f) rows) (flat_map row_bytes rest) in
-    omega (arith, one, rows_fit n (drop 40 groups) (drop (row_len f) rows), length-take (row_len f) rows, length-drop (row_len f) rows)
+    omega (arith, one, rows_fit n (drop SLOT_SIZE groups) (drop (row_len f) rows), length-take (row_len f) rows, length-drop (row_len f) rows)
 
 room-ge-len : (w : Writer) (len room : ℕ) → len ≤ room_as w len room
 room-ge-len (By t) len room = omega arith
@@ -72,16 +62,16 @@ roomy : (n : ℕ) (groups rows : List ℕ) → AllByRecursion (λ (s : Slot). le
 unfolding slots_in
 roomy zero groups rows = tt
 roomy (suc n) groups rows =
-    let f : SlotFields = fields_in (take 40 groups) in
-    (room-ge-len (writer_as f.tag f.writer) (length (take (row_len f) rows)) f.room, roomy n (drop 40 groups) (drop (row_len f) rows))
+    let f : SlotFields = fields_in (take SLOT_SIZE groups) in
+    (room-ge-len (writer_as f.tag f.writer) (length (take (row_len f) rows)) f.room, roomy n (drop SLOT_SIZE groups) (drop (row_len f) rows))
 
-pub read_fits : (e s : ℕ) (bytes body groups rows : List ℕ) (es : List ListEntry) (ss : List Slot) → length bytes ≡ 4096 → 2 ≤ e → e ≤ 8 → s ≤ 100 → 16 + 24 * e + 40 * s ≤ 4096
-    → rows ≡ drop (16 + 24 * e + 40 * s) bytes → es ≡ pieces_in entry_from 24 e body → ss ≡ slots_in s groups rows → IsHeld (record { slots = ss; entries = es })
+pub read_fits : (e s : ℕ) (bytes body groups rows : List ℕ) (es : List ListEntry) (ss : List Slot) → length bytes ≡ BLOCK_SIZE → LEAST_LIST_ENTRIES ≤ e → e ≤ MOST_LIST_ENTRIES → s ≤ MOST_SLOTS → PAGE_HEAD_SIZE + LIST_ENTRY_SIZE * e + SLOT_SIZE * s ≤ BLOCK_SIZE
+    → rows ≡ drop (PAGE_HEAD_SIZE + LIST_ENTRY_SIZE * e + SLOT_SIZE * s) bytes → es ≡ pieces_in entry_from LIST_ENTRY_SIZE e body → ss ≡ slots_in s groups rows → IsHeld (record { slots = ss; entries = es })
 read_fits e s bytes body groups rows es ss long least most count room r is_e is_s =
-    let entries : length es ≡ e = ap (λ (x : List ListEntry). length x) is_e ∙ length-pieces_in entry_from 24 e body in
+    let entries : length es ≡ e = ap (λ (x : List ListEntry). length x) is_e ∙ length-pieces_in entry_from LIST_ENTRY_SIZE e body in
     let slots : length ss ≡ s = ap (λ (x : List Slot). length x) is_s ∙ length-slots_in s groups rows in
     let fits : length (flat_map row_bytes ss) ≤ length rows = rw is_s (rows_fit s groups rows) in
-    let left : length rows ≡ length bytes - (16 + 24 * e + 40 * s) = ap (λ (x : List ℕ). length x) r ∙ length-drop (16 + 24 * e + 40 * s) bytes in
+    let left : length rows ≡ length bytes - (PAGE_HEAD_SIZE + LIST_ENTRY_SIZE * e + SLOT_SIZE * s) = ap (λ (x : List ℕ). length x) r ∙ length-drop (PAGE_HEAD_SIZE + LIST_ENTRY_SIZE * e + SLOT_SIZE * s) bytes in
     record {
       slots = omega arith;
       least = omega arith;

@@ -3,3 +3,4 @@ pub mod Answers
 pub mod Spelling
 pub mod Faults
 pub mod Again
+pub mod Types

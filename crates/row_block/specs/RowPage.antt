@@ -1,8 +1,6 @@
 -- A row block's page as contracts see it.
-use Rattle.std.specs.Prelude.{ℕ, ◌-◌, ◌<◌, ◌≤◌, Bool, true, if◌then◌else◌, nat_lt, nat_le, length, slice_index_or, All}
-use Rattle.seg_base.specs.declared.slot.Slot.{Slot}
-use Rattle.seg_base.specs.Blocks.{Block, new_slot, new_entry, put_slot, put_entry}
-use Rattle.seg_base.specs.Room.{slot_size, used_of}
+use Rattle.seg_words.specs.Std.{ℕ, ◌-◌, ◌<◌, ◌≤◌, Bool, true, if◌then◌else◌, nat_lt, nat_le, length, slice_index_or, All}
+use Rattle.seg_words.specs.Types.{Slot, Block, new_slot, new_entry, put_slot, put_entry, slot_size, used_of, BLOCK_ROOM, MOST_SLOTS, MOST_LIST_ENTRIES}
 
 pub record RowPage : Type 0 where
   pub dba : ℕ
@@ -12,35 +10,36 @@ pub record RowPage : Type 0 where
 abbrev pub with_block : RowPage → Block → RowPage
 with_block p b = record { dba = p.dba; lsn = p.lsn; block = b }
 
--- the bytes that a block takes on its page: each row has its length, whoever wrote it
+-- The bytes that a block takes on its page, where each row takes its length: room that is kept for active writers is not
+-- on the page.
 abbrev pub laid_out : Block → ℕ
 laid_out b = used_of (λ t. true) b
 
--- an image that has room for its row, and fits a block
+-- an image whose row fits its room, and whose room fits a block
 pub record IsImage (s : Slot) : Type 0 where
   pub bytes : length s.bytes ≤ s.room
-  pub room : s.room ≤ 4032
+  pub room : s.room ≤ BLOCK_ROOM
 
--- a block that fits its page: at most 100 slots, 2 to 8 list entries (INITRANS and MAXTRANS), each row within its room
+-- a block that fits its page: so many slots and list entries (INITRANS to MAXTRANS) at most, each row within its room
 pub record IsHeld (b : Block) : Type 0 where
-  pub slots : length b.slots ≤ 100
+  pub slots : length b.slots ≤ MOST_SLOTS
   pub least : 2 ≤ length b.entries
-  pub entries : length b.entries ≤ 8
+  pub entries : length b.entries ≤ MOST_LIST_ENTRIES
   pub rooms : All (λ s. length s.bytes ≤ s.room) b.slots
-  pub size : laid_out b ≤ 4032
+  pub size : laid_out b ≤ BLOCK_ROOM
 
 -- an image can be put into slot k, or behind the last slot: the block then fits its page
 pub record CanPut (b : Block) (k : ℕ) (image : Slot) : Type 0 where
   pub at : k ≤ length b.slots
-  pub most : k < 100
+  pub most : k < MOST_SLOTS
   pub bytes : length image.bytes ≤ image.room
-  pub size : laid_out (put_slot k image b) ≤ 4032
+  pub size : laid_out (put_slot k image b) ≤ BLOCK_ROOM
 
 -- a transaction can be put into list entry i, or behind the last entry
 pub record CanEnter (b : Block) (i : ℕ) : Type 0 where
   pub at : i ≤ length b.entries
-  pub most : i < 8
-  pub size : laid_out (put_entry i new_entry b) ≤ 4032
+  pub most : i < MOST_LIST_ENTRIES
+  pub size : laid_out (put_entry i new_entry b) ≤ BLOCK_ROOM
 
 -- what slot k counts now, 0 where it isn't there yet
 abbrev pub counted : (ℕ → Bool) → Block → ℕ → ℕ
@@ -54,4 +53,4 @@ growth_of ended b k image = slot_size ended image - counted ended b k
 -- the image takes on the page beyond what the slot takes now.
 abbrev pub need_of : (ℕ → Bool) → Block → ℕ → Slot → ℕ
 need_of ended b k image =
-    if nat_le (used_of ended b) 4032 then growth_of ended b k image else growth_of (λ t. true) b k image
+    if nat_le (used_of ended b) BLOCK_ROOM then growth_of ended b k image else growth_of (λ t. true) b k image

@@ -1,13 +1,10 @@
 // A row block, and the calls that ask it and change it.
-ghost use Rattle.std.specs.Prelude.{◌≡◌, ◌≤◌, ◌<◌, ◌+◌, ◌*◌, ◌/◌, ◌↔◌, length, slice_index_or, true, if◌then◌else◌, nat_lt, Some, None, OnOk, OnErr, IfOk, IfSome, IsTrue, MatchResult, option_map};
-ghost use Rattle.seg_base.specs.Blocks.{new_block, put, put_slot, put_entry, new_slot, new_entry};
-ghost use Rattle.seg_base.specs.Room.{slot_size, used_of, free_of, class_of_block, entry_for, other_entry, entry_size, entry_need, slot_need, takes, fits, row_growth, has_room};
-ghost use Rattle.seg_base.specs.Cleaning.{clean_block};
-ghost use Rattle.row_block.specs.RowPage.{with_block, laid_out, IsImage, IsHeld, counted, growth_of, need_of, CanPut, CanEnter};
+ghost use Rattle.seg_words.specs.Std.{◌≡◌, ◌≤◌, ◌<◌, ◌+◌, ◌*◌, ◌/◌, ◌↔◌, length, slice_index_or, true, if◌then◌else◌, nat_lt, Some, None, OnOk, OnErr, IfOk, IfSome, IsTrue, MatchResult, option_map};
+ghost use Rattle.seg_words.specs.Types.{new_block, put, put_slot, put_entry, new_slot, new_entry, slot_size, used_of, free_of, class_of_block, entry_for, other_entry, entry_size, entry_need, slot_need, takes, fits, row_growth, has_room, clean_block};
+ghost use Rattle.row_block.specs.RowPage.{with_block, laid_out, IsImage, IsHeld, counted, growth_of, need_of, CanPut, CanEnter, RowPage};
 ghost use Rattle.row_block.specs.Answers.{Fills, Puts, Enters, RefusesEntry, txns_of};
-ghost use Rattle.row_block.specs.declared.fault.BlockFault.TheVariants as faults;
-ghost use Rattle.row_block.specs.RowPage.{RowPage};
 ghost use Rattle.row_block.specs.Spelling.{spelling, IsRowPage, Decodes, IsReadAs};
+ghost use Rattle.row_block.specs.declared.fault.BlockFault.TheVariants as faults;
 
 use crate::BlockFault;
 use crate::clean::clean_slots;
@@ -15,7 +12,9 @@ use crate::entries::Entries;
 use crate::sizes::{AllEnded, row_size, slot_size, slot_to_use, slots_size};
 use page_bytes::PageForm;
 use seg_base::{
-    Class, Dba, Ended, ListEntry, Lsn, NoMemory, Scn, Sequence, Slot, Taker, TxnId, class_of,
+    BLOCK_ROOM, BLOCK_SIZE, Class, Dba, Ended, LEAST_LIST_ENTRIES, LIST_ENTRY_SIZE, ListEntry, Lsn,
+    MOST_LIST_ENTRIES, MOST_PCTFREE, MOST_SLOTS, NoMemory, SLOT_SIZE, Scn, Sequence, Slot, Taker,
+    TxnId, class_of,
 };
 use std::alloc::Global;
 use std::marker::Model;
@@ -95,21 +94,24 @@ impl RowBlock {
         ensures value { result ≡ used_of (E.has_ended ended.now) self.now.block }
         ensures most { result ≤ 6557644 }
     {
-        let more = 24 * (self.entries.len() as u32).saturating_sub(2);
-        slots_size(&self.slots, ended) + more
+        let more = self
+            .entries
+            .len()
+            .saturating_sub(LEAST_LIST_ENTRIES as usize);
+        slots_size(&self.slots, ended) + (LIST_ENTRY_SIZE * more) as u32
     }
 
     /// The bytes that are free.
     pub fn free<E: Ended>(&self, ended: &E) -> u16
         ensures value { result ≡ free_of (E.has_ended ended.now) self.now.block }
-        ensures most { result ≤ 4032 }
+        ensures most { result ≤ BLOCK_ROOM }
     {
-        4032u32.saturating_sub(self.used(ended)) as u16
+        BLOCK_ROOM.saturating_sub(self.used(ended)) as u16
     }
 
     /// The free class, which PCTFREE bounds.
     pub fn class<E: Ended>(&self, ended: &E, pctfree: u8) -> Class
-        requires { pctfree ≤ 50 }
+        requires { pctfree ≤ MOST_PCTFREE }
         ensures { result ≡ class_of_block (E.has_ended ended.now) pctfree self.now.block }
     {
         class_of(self.free(ended), pctfree)
@@ -118,7 +120,7 @@ impl RowBlock {
     /// The number of slots.
     pub fn slots(&self) -> u8
         ensures count { result ≡ length self.now.block.slots }
-        ensures most { result ≤ 100 }
+        ensures most { result ≤ MOST_SLOTS }
     {
         self.slots.len() as u8
     }
@@ -133,7 +135,7 @@ impl RowBlock {
     /// The number of list entries, from 2 on.
     pub fn entries(&self) -> u8
         ensures count { result ≡ length self.now.block.entries }
-        ensures range { (2 ≤ result) × (result ≤ 8) }
+        ensures range { (LEAST_LIST_ENTRIES ≤ result) × (result ≤ MOST_LIST_ENTRIES) }
     {
         self.entries.len() as u8
     }
@@ -142,10 +144,8 @@ impl RowBlock {
     pub fn entry(&self, i: u8) -> Option<(TxnId, Scn)>
         ensures { result ≡ (if nat_lt i (length self.now.block.entries) then Some (record { 0 = (slice_index_or self.now.block.entries i new_entry).txn; 1 = (slice_index_or self.now.block.entries i new_entry).number }) else None) }
     {
-        match self.entries.as_slice().get(i as usize) {
-            Some(entry) => Some((entry.txn, entry.number)),
-            None => None,
-        }
+        let entry = self.entries.as_slice().get(i as usize)?;
+        Some((entry.txn, entry.number))
     }
 
     /// The least entry that is empty or names an ended transaction, else a new one.
@@ -156,7 +156,7 @@ impl RowBlock {
             return Some(at as u8);
         }
         let count = self.entries.len();
-        if count < 8 && 24 <= self.free(ended) {
+        if count < usize::from(MOST_LIST_ENTRIES) && LIST_ENTRY_SIZE as u16 <= self.free(ended) {
             return Some(count as u8);
         }
         None
@@ -165,11 +165,14 @@ impl RowBlock {
     /// Why a transaction can't have a list entry.
     fn no_entry<E: Ended>(&self, ended: &E) -> Result<BlockFault, BlockFault>
         requires { other_entry (E.has_ended ended.now) self.now.block ≡ None }
-        ensures { MatchResult result (RefusesEntry (E.has_ended ended.now) self.now.block) (λ e. (e ≡ faults.NoMemory) × (length self.now.block.entries ≡ 8)) }
+        ensures { MatchResult result (RefusesEntry (E.has_ended ended.now) self.now.block) (λ e. (e ≡ faults.NoMemory) × (length self.now.block.entries ≡ MOST_LIST_ENTRIES)) }
     {
-        if self.entries() < 8 {
+        if self.entries() < MOST_LIST_ENTRIES {
             let free = self.free(ended);
-            return Ok(BlockFault::NoRoom { need: 24, free });
+            return Ok(BlockFault::NoRoom {
+                need: LIST_ENTRY_SIZE as u16,
+                free,
+            });
         }
         let txns = txns_of(*self.slots.allocator(), self.entries.as_slice())?;
         Ok(BlockFault::NoSlot { txns })
@@ -178,7 +181,7 @@ impl RowBlock {
     /// The list entry that a transaction uses, `entries()` for a new one; None exactly where none can be had.
     pub fn entry_for<E: Ended>(&self, ended: &E, txn: TxnId) -> Option<u8>
         ensures value { result ≡ entry_for (E.has_ended ended.now) self.now.block txn }
-        ensures range { IfSome result (λ i. (i ≤ length self.now.block.entries) × (i < 8)) }
+        ensures range { IfSome result (λ i. (i ≤ length self.now.block.entries) × (i < MOST_LIST_ENTRIES)) }
     {
         if let Some(at) = self.entries.own(txn) {
             return Some(at as u8);
@@ -189,41 +192,46 @@ impl RowBlock {
     fn entry_size(&self, i: u8) -> u16
         ensures { result ≡ entry_size self.now.block i }
     {
-        if i < self.entries() { 0 } else { 24 }
+        if i < self.entries() {
+            0
+        } else {
+            LIST_ENTRY_SIZE as u16
+        }
     }
 
     /// What a taker needs for its list entry, None where none can be had.
     fn entry_need<E: Ended>(&self, ended: &E, taker: &Taker) -> Option<u16>
         ensures value { result ≡ entry_need (E.has_ended ended.now) self.now.block taker.now }
-        ensures most { IfSome result (λ n. n ≤ 24) }
+        ensures most { IfSome result (λ n. n ≤ LIST_ENTRY_SIZE) }
     {
         let entry = match taker {
             Taker::New => self.other_entry(ended),
             Taker::Open(txn) => self.entry_for(ended, *txn),
             Taker::Shrink => return Some(0),
         };
-        match entry {
-            Some(i) => Some(self.entry_size(i)),
-            None => None,
-        }
+        Some(self.entry_size(entry?))
     }
 
     /// Whether a row of this length goes into the block, into a slot that is reusable or new, and leaves PCTFREE free.
     pub fn takes<E: Ended>(&self, ended: &E, pctfree: u8, len: u16, taker: &Taker) -> bool
-        requires { pctfree ≤ 50 }
+        requires { pctfree ≤ MOST_PCTFREE }
         ensures { result ≡ takes (E.has_ended ended.now) pctfree self.now.block len taker.now }
     {
         match self.entry_need(ended, taker) {
             None => false,
             Some(entry) => {
                 let at = slot_to_use(&self.slots, ended);
-                if at >= 100 {
+                if at >= usize::from(MOST_SLOTS) {
                     return false;
                 }
-                let slot = if at < self.slots.len() { 0 } else { 40 };
+                let slot = if at < self.slots.len() {
+                    0
+                } else {
+                    SLOT_SIZE as u32
+                };
                 let need = u32::from(len) + slot + u32::from(entry);
                 let free = u32::from(self.free(ended));
-                need <= free && u32::from(pctfree) * 4032 <= (free - need) * 100
+                need <= free && u32::from(pctfree) * BLOCK_ROOM <= (free - need) * 100
             }
         }
     }
@@ -264,7 +272,7 @@ impl RowBlock {
         requires { IsImage image.now }
         ensures { result ≡ need_of (E.has_ended ended.now) self.now.block n image.now }
     {
-        if self.used(ended) <= 4032 {
+        if self.used(ended) <= BLOCK_ROOM {
             self.growth(ended, n, image)
         } else {
             self.growth(&AllEnded, n, image)
@@ -276,11 +284,11 @@ impl RowBlock {
         ensures { IsTrue result ↔ CanPut self.now.block n image.now }
     {
         let len = image.bytes.len();
-        if n > self.slots() || n >= 100 || len > image.room as usize {
+        if n > self.slots() || n >= MOST_SLOTS || len > image.room as usize {
             return false;
         }
         let others = self.used(&AllEnded) - self.counted(&AllEnded, n);
-        others + 40 + len as u32 <= 4032
+        others + SLOT_SIZE as u32 + len as u32 <= BLOCK_ROOM
     }
 
     /// Puts an image into slot n, or behind the last slot.
@@ -295,7 +303,7 @@ impl RowBlock {
     /// Puts an image into slot n where the bytes that it needs are free.
     pub fn set_slot<E: Ended>(&mut self, ended: &E, n: u8, image: Slot) -> Result<(), BlockFault>
         requires at { n ≤ length self.old.block.slots }
-        requires most { n < 100 }
+        requires most { n < MOST_SLOTS }
         requires image { IsImage image }
         ensures { Fills (need_of (E.has_ended ended.now) self.old.block n image) (free_of (E.has_ended ended.now) self.old.block) self.old (with_block self.old (put_slot n image self.old.block)) self.new result }
     {
@@ -314,13 +322,13 @@ impl RowBlock {
     {
         let _ = &self.dba;
         let count = self.entries();
-        if i > count || i >= 8 {
+        if i > count || i >= MOST_LIST_ENTRIES {
             return false;
         }
         if i < count {
             return true;
         }
-        self.used(&AllEnded) + 24 <= 4032
+        self.used(&AllEnded) + LIST_ENTRY_SIZE as u32 <= BLOCK_ROOM
     }
 
     /// Puts a transaction into list entry i, or behind the last entry.
@@ -374,7 +382,7 @@ impl RowBlock {
     }
 
     /// The block that a page spells, or the first byte that is not of the spelling of what its fields read as.
-    pub fn decode(alloc: Global, bytes: &[u8; 4096]) -> Result<RowBlock, BlockFault>
+    pub fn decode(alloc: Global, bytes: &[u8; BLOCK_SIZE]) -> Result<RowBlock, BlockFault>
         ensures exact { Decodes bytes.now result }
         // What is read has a spelling, and what is spelled is read.
         ensures spelled { IfOk result IsRowPage }
@@ -385,7 +393,7 @@ impl RowBlock {
     }
 
     /// Writes the one page that spells the block.
-    pub fn encode(&self, out: &mut [u8; 4096])
+    pub fn encode(&self, out: &mut [u8; BLOCK_SIZE])
         ensures { out.new ≡ spelling self.now }
     {
         self.write(out);

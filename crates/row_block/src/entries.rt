@@ -1,13 +1,12 @@
 // The transaction list of a block, 2 to 8 entries that take no memory.
-ghost use Rattle.std.specs.Prelude.{◌≡◌, ◌<◌, ◌≤◌, ◌∷◌, ◌++◌, [], length, map, set, cond, ltb, Some, None};
-ghost use Rattle.std.specs.List.{position_or_len};
-ghost use Rattle.seg_base.specs.Blocks.{new_entry, put};
-ghost use Rattle.seg_base.specs.Cleaning.{clean_entry};
-ghost use Rattle.seg_base.specs.Room.{names, is_spare};
+ghost use Rattle.seg_words.specs.Std.{◌≡◌, ◌<◌, ◌≤◌, ◌∷◌, ◌++◌, [], length, map, set, cond, ltb, Some, None, position_or_len};
+ghost use Rattle.seg_words.specs.Types.{new_entry, put, clean_entry, names, is_spare};
 
 use crate::clean::clean_entries;
-use seg_base::{Ended, ListEntry, Scn, TxnId};
+use seg_base::{Ended, LEAST_LIST_ENTRIES, ListEntry, MOST_LIST_ENTRIES, Scn, TxnId};
 use std::marker::Model;
+
+const MOST: usize = MOST_LIST_ENTRIES as usize;
 
 const NONE: ListEntry = ListEntry {
     txn: TxnId(0),
@@ -16,19 +15,19 @@ const NONE: ListEntry = ListEntry {
 
 #[derive(Debug, Drop)]
 pub struct Entries {
-    all: [ListEntry; 8],
+    all: [ListEntry; MOST],
     count: usize,
 }
 
 impl Model for Entries {
-    ghost use Rattle.std.specs.Prelude.{List, ◌≤◌, take};
-    ghost use Rattle.seg_base.specs.declared.slot.ListEntry.{ListEntry};
+    ghost use Rattle.seg_words.specs.Std.{List, ◌≤◌, take};
+    ghost use Rattle.seg_words.specs.Types.{ListEntry, MOST_LIST_ENTRIES};
 
     ghost Value = { List ListEntry };
 
     ghost view = { λ e. take e.count e.all };
 
-    ghost invariant = { λ e. e.count ≤ 8 };
+    ghost invariant = { λ e. e.count ≤ MOST_LIST_ENTRIES };
 }
 
 impl Entries {
@@ -37,17 +36,17 @@ impl Entries {
         ensures { result ≡ new_entry ∷ new_entry ∷ [] }
     {
         Entries {
-            all: [NONE; 8],
-            count: 2,
+            all: [NONE; MOST],
+            count: LEAST_LIST_ENTRIES as usize,
         }
     }
 
     /// The entries of a list.
     pub fn copy(entries: &[ListEntry]) -> Entries
-        requires { length entries.now ≤ 8 }
+        requires { length entries.now ≤ MOST_LIST_ENTRIES }
         ensures { result ≡ entries.now }
     {
-        let mut all = [NONE; 8];
+        let mut all = [NONE; MOST];
         all[..entries.len()].copy_from_slice(entries);
         Entries {
             all,
@@ -57,7 +56,7 @@ impl Entries {
 
     pub fn len(&self) -> usize
         ensures count { result ≡ length self.now }
-        ensures most { result ≤ 8 }
+        ensures most { result ≤ MOST_LIST_ENTRIES }
     {
         self.all[..self.count].len()
     }
@@ -72,7 +71,7 @@ impl Entries {
     #[tactic(auto, using(seg_base::proofs::Puts::put_set, seg_base::proofs::Puts::put_push))]
     pub fn put(&mut self, at: usize, entry: ListEntry)
         requires place { at ≤ length self.old }
-        requires most { at < 8 }
+        requires most { at < MOST_LIST_ENTRIES }
         ensures { self.new ≡ put new_entry self.old at entry }
     {
         if at < self.len() {
@@ -92,7 +91,7 @@ impl Entries {
     }
 
     fn push(&mut self, entry: ListEntry)
-        requires { length self.old < 8 }
+        requires { length self.old < MOST_LIST_ENTRIES }
         ensures { self.new ≡ self.old ++ entry ∷ [] }
     {
         self.all[self.count] = entry;
@@ -124,7 +123,7 @@ impl Entries {
     pub fn duplicate(&self) -> Entries
         ensures { result ≡ self.now }
     {
-        let mut all = [NONE; 8];
+        let mut all = [NONE; MOST];
         all.copy_from_slice(&self.all);
         Entries {
             all,

@@ -1,15 +1,14 @@
 // What slots count, and which is used next.
-ghost use Rattle.std.specs.Prelude.{◌≡◌, ◌<◌, ◌≤◌, length, get_or, cond, ltb, Some, None, All};
-ghost use Rattle.std.specs.List.{sum_by, position_or_len};
-ghost use Rattle.seg_base.specs.Room.{row_size, slot_size, writer_has_ended, is_reusable};
+ghost use Rattle.seg_words.specs.Std.{◌≡◌, ◌<◌, ◌≤◌, length, get_or, cond, ltb, Some, None, All, sum_by, position_or_len};
+ghost use Rattle.seg_words.specs.Types.{row_size, slot_size, writer_has_ended, is_reusable};
 
-use seg_base::{Ended, Kind, Slot, TxnId, Writer};
+use seg_base::{Ended, Kind, MOST_SLOTS, SLOT_SIZE, Slot, TxnId, Writer};
 
 /// Every transaction has ended: a slot counts what it takes on the page.
 pub struct AllEnded;
 
 impl Ended for AllEnded {
-    ghost use Rattle.std.specs.Prelude.{true};
+    ghost use Rattle.seg_words.specs.Std.{true};
 
     ghost has_ended = { λ _ _. true };
 
@@ -45,12 +44,12 @@ pub fn slot_size<E: Ended>(slot: &Slot, ended: &E) -> u32
     ensures value { result ≡ slot_size (E.has_ended ended.now) slot.now }
     ensures most { result ≤ 65575 }
 {
-    40 + u32::from(row_size(slot, ended))
+    SLOT_SIZE as u32 + u32::from(row_size(slot, ended))
 }
 
 /// What the slots count together.
 pub fn slots_size<E: Ended>(slots: &[Slot], ended: &E) -> u32
-    requires count { length slots.now ≤ 100 }
+    requires count { length slots.now ≤ MOST_SLOTS }
     requires rooms { All (λ s. length s.bytes ≤ s.room) slots.now }
     ensures value { result ≡ sum_by (slot_size (E.has_ended ended.now)) slots.now }
     ensures most { result ≤ 6557500 }

@@ -1,14 +1,8 @@
 -- Pages written part by part: the bytes behind each other are the spelling.
-use Rattle.std.proofs.Common.{◌≡◌, ℕ, ◌-◌, ◌≤◌, List, [], ◌∷◌, ◌++◌, length, take, ap, sym, ◌∙◌, append_assoc, Some}
-use Rattle.std.specs.Prelude.{replicate}
-use Rattle.std.proofs.lemmas.List.{take_all, take-replicate}
-use Rattle.std.specs.List.{flat_map}
-use Rattle.std.specs.Int.{w32, w64, to_be_bytes}
-use Rattle.page_bytes.specs.Pages.{head_bytes, page_of}
-use Rattle.segment_blocks.specs.Checkpoints.{Checkpoint, spelling_of_checkpoint}
-use Rattle.segment_blocks.specs.Spaces.{Space, spelling_of_space}
-use Rattle.segment_blocks.specs.Catalogues.{Tables, spelled_table, spelled_entry, spelling_of_tables}
-use Rattle.segment_blocks.specs.Headers.{Header, extent_bytes, fields_of, spelling_of_header}
+use Rattle.seg_words.proofs.Std.{◌≡◌, ℕ, ◌-◌, ◌≤◌, List, [], ◌∷◌, ◌++◌, length, take, ap, sym, ◌∙◌, append_assoc, Some, replicate, take_all, take-replicate, flat_map, w32, w64, to_be_bytes}
+use Rattle.seg_words.specs.Types.{LONGEST_NAME}
+use Rattle.page_bytes.specs.Types.{head_bytes, page_of}
+use Rattle.segment_blocks.specs.Types.{Checkpoint, spelling_of_checkpoint, Space, spelling_of_space, Tables, spelled_table, spelled_entry, spelling_of_tables, Header, extent_bytes, fields_of, spelling_of_header}
 
 pub checkpoint_written : (p : Checkpoint) (page head a b d : List ℕ) → head ≡ head_bytes 1 0 0 p.dba p.records → a ≡ to_be_bytes w64 p.records → b ≡ to_be_bytes w64 p.end_gate → d ≡ to_be_bytes w64 p.commits
     → page ≡ page_of (((head ++ a) ++ b) ++ d) → page ≡ spelling_of_checkpoint p
@@ -34,14 +28,14 @@ space_written s page head lowerings h1 h2 is = is
     ∙ ap (λ (x : List ℕ). page_of ((head_bytes 4 0 0 s.dba s.lsn ++ x) ++ s.bits)) h2
 
 -- an entry of the catalogue behind a front
-pub table_added : (front name name_zeros header_bytes zeros : List ℕ) (header : ℕ) → length name ≤ 30 → name_zeros ≡ replicate (30 - length name) 0 → header_bytes ≡ to_be_bytes w32 header → zeros ≡ replicate 29 0
+pub table_added : (front name name_zeros header_bytes zeros : List ℕ) (header : ℕ) → length name ≤ LONGEST_NAME → name_zeros ≡ replicate (LONGEST_NAME - length name) 0 → header_bytes ≡ to_be_bytes w32 header → zeros ≡ replicate 29 0
     → ((((front ++ length name ∷ []) ++ name) ++ name_zeros) ++ header_bytes) ++ zeros ≡ front ++ spelled_table (Some (record { name = name; header = header }))
 table_added front name name_zeros header_bytes zeros header most e1 e2 e3 =
     let group : ((((front ++ length name ∷ []) ++ name) ++ name_zeros) ++ header_bytes) ++ zeros ≡ front ++ (((length name ∷ name ++ name_zeros) ++ header_bytes) ++ zeros) = simp append_assoc in
-    group ∙ ap (λ (x : List ℕ). front ++ (((length name ∷ x ++ name_zeros) ++ header_bytes) ++ zeros)) (sym (take_all 30 name most))
-    ∙ ap (λ (x : List ℕ). front ++ (((length name ∷ take 30 name ++ x) ++ header_bytes) ++ zeros)) e1
-    ∙ ap (λ (x : List ℕ). front ++ (((length name ∷ take 30 name ++ replicate (30 - length name) 0) ++ x) ++ zeros)) e2
-    ∙ ap (λ (x : List ℕ). front ++ (((length name ∷ take 30 name ++ replicate (30 - length name) 0) ++ to_be_bytes w32 header) ++ x)) e3
+    group ∙ ap (λ (x : List ℕ). front ++ (((length name ∷ x ++ name_zeros) ++ header_bytes) ++ zeros)) (sym (take_all LONGEST_NAME name most))
+    ∙ ap (λ (x : List ℕ). front ++ (((length name ∷ take LONGEST_NAME name ++ x) ++ header_bytes) ++ zeros)) e1
+    ∙ ap (λ (x : List ℕ). front ++ (((length name ∷ take LONGEST_NAME name ++ replicate (LONGEST_NAME - length name) 0) ++ x) ++ zeros)) e2
+    ∙ ap (λ (x : List ℕ). front ++ (((length name ∷ take LONGEST_NAME name ++ replicate (LONGEST_NAME - length name) 0) ++ to_be_bytes w32 header) ++ x)) e3
 
 pub first_zeros : (n : ℕ) → n ≤ 64 → take {A = ℕ} n (replicate {A = ℕ} 64 0) ≡ replicate n 0
 first_zeros n le = take-replicate {X = ℕ} n 64 0 le

@@ -1,9 +1,7 @@
 -- The least free extent.
-use Rattle.std.proofs.Common.{◌≡◌, ℕ, ◌+◌, ◌<◌, ◌≤◌, Bool, true, false, not, List, refl, sym, ap, ◌∙◌, subst, inl, inr, arith}
+use Rattle.seg_words.proofs.Std.{◌≡◌, ℕ, ◌+◌, ◌<◌, ◌≤◌, Bool, true, false, not, List, refl, sym, ap, ◌∙◌, subst, inl, inr, arith, replicate, ◌/◌, ◌*◌, take, length, get_or, set, length-take, length-set, get_or-set_same}
 use Rattle.std.proofs.Math.Nat.{eq-or-lt_of_le}
-use Rattle.std.specs.Prelude.{replicate, ◌/◌, ◌*◌, take, length, get_or, set}
-use Rattle.std.proofs.lemmas.List.{length-take, length-set, get_or-set_same}
-use Rattle.segment_blocks.specs.Spaces.{is_used, AreUsed, IsLeastFree, HasBits, bits_in}
+use Rattle.segment_blocks.specs.Types.{is_used, AreUsed, IsLeastFree, HasBits, bits_in}
 
 pub none_free : (bits : List ℕ) → AreUsed bits 0
 none_free bits x lt = absurd (omega (arith, lt))

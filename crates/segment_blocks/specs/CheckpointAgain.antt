@@ -1,8 +1,6 @@
 -- A checkpoint page that is spelled is read.
-use Rattle.std.proofs.Common.{◌≡◌, refl}
-use Rattle.std.specs.Int.{w32, w64}
-use Rattle.std.proofs.lemmas.Nat.{from_be_bytes-to_be_bytes_4, from_be_bytes-to_be_bytes_8}
-use Rattle.seg_base.specs.Fields.{number_in}
+use Rattle.seg_words.proofs.Std.{◌≡◌, refl, w32, w64, from_be_bytes-to_be_bytes_4, from_be_bytes-to_be_bytes_8}
+use Rattle.seg_words.specs.Types.{number_in}
 use Rattle.segment_blocks.specs.Checkpoints.{Checkpoint, spelling_of_checkpoint, checkpoint_in, IsCheckpoint}
 
 pub checkpoint_again : (p : Checkpoint) → IsCheckpoint p → checkpoint_in (spelling_of_checkpoint p) ≡ p

@@ -1,11 +1,8 @@
 -- A segment's header: its table, what its statements said of it, its marks and its extents (Oracle Database Concepts,
 -- "Segments", "Segment Space and the High Water Mark"). The layout is this engine's own.
-use Rattle.std.specs.Prelude.{ℕ, zero, suc, ◌<◌, ◌≤◌, ◌^◌, min, max, Bool, true, false, List, [], ◌∷◌, ◌++◌, length, slice_index, drop, replicate, Option, Some, None}
-use Rattle.std.specs.List.{flat_map, AllByRecursion}
-use Rattle.std.specs.Int.{w16, w32, w64, to_be_bytes}
-use Rattle.seg_base.specs.Fields.{number_in}
-use Rattle.page_bytes.specs.Pages.{page_of, head_bytes}
-use Rattle.page_bytes.specs.Pieces.{pieces_in}
+use Rattle.seg_words.specs.Std.{ℕ, zero, suc, ◌<◌, ◌≤◌, ◌^◌, min, max, Bool, true, false, List, [], ◌∷◌, ◌++◌, length, slice_index, drop, replicate, Option, Some, None, flat_map, AllByRecursion, w16, w32, w64, to_be_bytes}
+use Rattle.seg_words.specs.Types.{number_in, MOST_PCTFREE, MOST_TABLES, MOST_EXTENTS}
+use Rattle.page_bytes.specs.Types.{page_of, head_bytes, pieces_in}
 
 -- the table, its PCTFREE, whether its rows may be moved, its low and high water marks, its extents in order of index
 pub record Header : Type 0 where
@@ -45,14 +42,14 @@ is_on (suc n) = true
 
 -- a table's number is 1 to 32, PCTFREE is at most 50, a table has at most 900 extents
 abbrev pub obj_in : ℕ → ℕ
-obj_in n = max 1 (min n 32)
+obj_in n = max 1 (min n MOST_TABLES)
 
 abbrev pub header_with : ℕ → List ℕ → Header
 header_with count bytes = record {
   dba = number_in w32 bytes 4;
   lsn = number_in w64 bytes 8;
   obj = obj_in (slice_index bytes 16);
-  pctfree = min (slice_index bytes 17) 50;
+  pctfree = min (slice_index bytes 17) MOST_PCTFREE;
   movement = is_on (slice_index bytes 18);
   low = number_in w32 bytes 20;
   high = number_in w32 bytes 24;
@@ -60,25 +57,25 @@ header_with count bytes = record {
 }
 
 unfoldable pub header_in : List ℕ → Header
-header_in bytes = header_with (min (number_in w16 bytes 28) 900) bytes
+header_in bytes = header_with (min (number_in w16 bytes 28) MOST_EXTENTS) bytes
 
 pub record IsHeader (h : Header) : Type 0 where
   pub dba : h.dba < 2 ^ 32
   pub lsn : h.lsn < 2 ^ 64
   pub least_obj : 1 ≤ h.obj
-  pub most_obj : h.obj ≤ 32
-  pub pctfree : h.pctfree ≤ 50
+  pub most_obj : h.obj ≤ MOST_TABLES
+  pub pctfree : h.pctfree ≤ MOST_PCTFREE
   pub low : h.low < 2 ^ 32
   pub high : h.high < 2 ^ 32
-  pub count : length h.extents ≤ 900
+  pub count : length h.extents ≤ MOST_EXTENTS
   pub extents : AllByRecursion (λ x. x < 2 ^ 32) h.extents
 
 -- the ranges of a table's number, of its PCTFREE and of how many extents it has
 pub record HasLimits (o p n : ℕ) : Type 0 where
   pub least_obj : 1 ≤ o
-  pub most_obj : o ≤ 32
-  pub pctfree : p ≤ 50
-  pub count : n ≤ 900
+  pub most_obj : o ≤ MOST_TABLES
+  pub pctfree : p ≤ MOST_PCTFREE
+  pub count : n ≤ MOST_EXTENTS
 
 -- the extent at an index
 abbrev pub extent_at : List ℕ → ℕ → Option ℕ

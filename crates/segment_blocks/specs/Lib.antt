@@ -6,3 +6,4 @@ pub mod Spaces
 pub mod SpaceAgain
 pub mod Catalogues
 pub mod CatalogueAgain
+pub mod Types

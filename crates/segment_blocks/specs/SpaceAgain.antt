@@ -1,10 +1,6 @@
 -- A space bitmap that is spelled is read.
-use Rattle.std.proofs.Common.{◌≡◌, ℕ, ◌*◌, ◌/◌, List, ◌++◌, length, slice_index, slice_set, take, drop, refl, ap, ◌∙◌}
-use Rattle.std.specs.Prelude.{replicate, ◌-◌}
-use Rattle.std.specs.Int.{w32, w64}
-use Rattle.std.proofs.lemmas.Nat.{from_be_bytes-to_be_bytes_4, from_be_bytes-to_be_bytes_8}
-use Rattle.std.proofs.lemmas.List.{set-get_or}
-use Rattle.seg_base.specs.Fields.{number_in}
+use Rattle.seg_words.proofs.Std.{◌≡◌, ℕ, ◌*◌, ◌/◌, List, ◌++◌, length, slice_index, slice_set, take, drop, refl, ap, ◌∙◌, replicate, ◌-◌, w32, w64, from_be_bytes-to_be_bytes_4, from_be_bytes-to_be_bytes_8, set-get_or}
+use Rattle.seg_words.specs.Types.{number_in, BLOCK_SIZE}
 use Rattle.page_bytes.proofs.Fronts.{take_front}
 use Rattle.segment_blocks.specs.Spaces.{Space, front_of_space, spelling_of_space, bits_in, space_in, HasBits, IsSpace}
 
@@ -16,7 +12,7 @@ bits_again bits rest has =
 pub space_again : (s : Space) → IsSpace s → space_in (spelling_of_space s) ≡ s
 unfolding spelling_of_space space_in
 space_again s fits =
-    let zeros : List ℕ = replicate (4096 - length (front_of_space s)) 0 in
+    let zeros : List ℕ = replicate (BLOCK_SIZE - length (front_of_space s)) 0 in
     let e1 : number_in w32 (spelling_of_space s) 4 ≡ s.dba = from_be_bytes-to_be_bytes_4 s.dba fits.dba in
     let e2 : number_in w64 (spelling_of_space s) 8 ≡ s.lsn = from_be_bytes-to_be_bytes_8 s.lsn fits.lsn in
     let e3 : number_in w64 (spelling_of_space s) 16 ≡ s.lowerings = from_be_bytes-to_be_bytes_8 s.lowerings fits.lowerings in

@@ -1,10 +1,10 @@
 // The catalogue, block 2.
-ghost use Rattle.std.specs.Prelude.{◌≡◌, ◌≤◌, ◌+◌, ◌<◌, length, IfSome, position};
-ghost use Rattle.segment_blocks.specs.Catalogues.{has_table, header_in, header_of, is_named, spelling_of_tables, table_count, table_named};
+ghost use Rattle.seg_words.specs.Std.{◌≡◌, ◌≤◌, ◌+◌, ◌<◌, length, IfSome, position};
+ghost use Rattle.segment_blocks.specs.Catalogues.{has_table, header_of_table, header_of, is_named, spelling_of_tables, table_count, table_named};
 
-use crate::entry::{CatalogueEntry, TableEntry};
+use crate::entry::{CatalogueEntry, NamedTable};
 use page_bytes::{PageForm, add, add_all, begin, head_bytes, number_u32, number_u64, read_all};
-use seg_base::{Dba, Lsn, Name, NoMemory, Obj};
+use seg_base::{BLOCK_SIZE, Dba, Lsn, MOST_TABLES, Name, NoMemory, Obj};
 use std::alloc::Global;
 use std::marker::Model;
 
@@ -19,14 +19,15 @@ pub struct Catalogue {
 }
 
 impl Model for Catalogue {
-    ghost use Rattle.std.specs.Prelude.{◌≡◌, length};
+    ghost use Rattle.seg_words.specs.Std.{◌≡◌, length};
     ghost use Rattle.segment_blocks.specs.Catalogues.{Tables};
+    ghost use Rattle.seg_words.specs.Types.{MOST_TABLES};
 
     ghost Value = { Tables };
 
     ghost view = { λ c. record { dba = c.dba; lsn = c.lsn; entries = c.entries.items } };
 
-    ghost invariant = { λ c. length c.entries.items ≡ 32 };
+    ghost invariant = { λ c. length c.entries.items ≡ MOST_TABLES };
 }
 
 fn has_table(entry: &CatalogueEntry) -> bool
@@ -48,12 +49,10 @@ fn is_named(entry: &CatalogueEntry, name: &[u8]) -> bool
 }
 
 fn header(entry: &CatalogueEntry) -> Option<Dba>
-    ensures { result ≡ header_in entry.now.table }
+    ensures { result ≡ header_of_table entry.now.table }
 {
-    match &entry.table {
-        None => None,
-        Some(table) => Some(table.header),
-    }
+    let table = entry.table.as_ref()?;
+    Some(table.header)
 }
 
 fn place_named(entries: &[CatalogueEntry], name: &[u8]) -> Option<usize>
@@ -94,10 +93,8 @@ impl Catalogue {
     pub fn table(&self, name: &Name) -> Option<Obj>
         ensures { result ≡ table_named self.now.entries name.now }
     {
-        match place_named(&self.entries, name.as_slice()) {
-            None => None,
-            Some(at) => Some(Obj(at as u8 + 1)),
-        }
+        let at = place_named(&self.entries, name.as_slice())?;
+        Some(Obj(at as u8 + 1))
     }
 
     /// How many tables there are.
@@ -126,9 +123,9 @@ impl PageForm for Catalogue {
     ghost HasSpelling = { IsCatalogue };
 
     #[tactic(auto, unfolding(crate::specs::Catalogues::tables_in))]
-    fn read(alloc: Global, bytes: &[u8; 4096]) -> Result<Catalogue, NoMemory> {
+    fn read(alloc: Global, bytes: &[u8; BLOCK_SIZE]) -> Result<Catalogue, NoMemory> {
         let (_, rest) = bytes.split_at(16);
-        let entries = read_all(alloc, 32, rest)?;
+        let entries = read_all(alloc, MOST_TABLES as u16, rest)?;
         Ok(Catalogue {
             dba: Dba(number_u32(bytes, 4)),
             lsn: Lsn(number_u64(bytes, 8)),
@@ -136,15 +133,15 @@ impl PageForm for Catalogue {
         })
     }
 
-    fn write(&self, out: &mut [u8; 4096]) {
+    fn write(&self, out: &mut [u8; BLOCK_SIZE]) {
         write_page(self.dba, self.lsn, &self.entries, out);
     }
 
     ghost reads_again = { tables_again };
 }
 
-fn write_page(dba: Dba, lsn: Lsn, entries: &[CatalogueEntry], out: &mut [u8; 4096])
-    requires { length entries.now ≤ 32 }
+fn write_page(dba: Dba, lsn: Lsn, entries: &[CatalogueEntry], out: &mut [u8; BLOCK_SIZE])
+    requires { length entries.now ≤ MOST_TABLES }
     ensures { out.new ≡ spelling_of_tables (record { dba = dba; lsn = lsn; entries = entries.now }) }
 {
     let start = begin(out);

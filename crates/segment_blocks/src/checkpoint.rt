@@ -1,10 +1,9 @@
 // The checkpoint page, block 0.
-ghost use Rattle.std.specs.Prelude.{◌≡◌};
+ghost use Rattle.seg_words.specs.Std.{◌≡◌};
 ghost use Rattle.segment_blocks.specs.Checkpoints.{spelling_of_checkpoint, IsCheckpoint};
 
-use crate::range::in_range;
-use page_bytes::{PageForm, add, begin, head_bytes, number_u32, number_u64};
-use seg_base::{Dba, Lsn, NoMemory, Scn};
+use page_bytes::{PageForm, add, begin, head_bytes, in_range, number_u32, number_u64};
+use seg_base::{BLOCK_SIZE, Dba, Lsn, NoMemory, Scn};
 use std::alloc::Global;
 use std::marker::Model;
 
@@ -90,7 +89,7 @@ impl PageForm for CheckpointPage {
     ghost HasSpelling = { IsCheckpoint };
 
     #[tactic(auto, unfolding(crate::specs::Checkpoints::checkpoint_in))]
-    fn read(_alloc: Global, bytes: &[u8; 4096]) -> Result<CheckpointPage, NoMemory> {
+    fn read(_alloc: Global, bytes: &[u8; BLOCK_SIZE]) -> Result<CheckpointPage, NoMemory> {
         Ok(CheckpointPage {
             dba: Dba(number_u32(bytes, 4)),
             length: Lsn(number_u64(bytes, 16)),
@@ -99,7 +98,7 @@ impl PageForm for CheckpointPage {
         })
     }
 
-    fn write(&self, out: &mut [u8; 4096]) {
+    fn write(&self, out: &mut [u8; BLOCK_SIZE]) {
         let length = self.length;
         let commits = self.commits;
         write_page(self.dba, length.0, self.end_gate, commits.0, out);
@@ -108,7 +107,7 @@ impl PageForm for CheckpointPage {
     ghost reads_again = { checkpoint_again };
 }
 
-fn write_page(dba: Dba, length: u64, end_gate: u64, commits: u64, out: &mut [u8; 4096])
+fn write_page(dba: Dba, length: u64, end_gate: u64, commits: u64, out: &mut [u8; BLOCK_SIZE])
     ensures { out.new ≡ spelling_of_checkpoint (record { dba = dba; records = length; end_gate = end_gate; commits = commits }) }
 {
     let start = begin(out);

@@ -1,9 +1,9 @@
 // An extent's number in four bytes.
-ghost use Rattle.std.specs.Prelude.{◌≡◌};
+ghost use Rattle.seg_words.specs.Std.{◌≡◌};
 ghost use Rattle.segment_blocks.specs.Headers.{extent_bytes, extent_in};
 
 use page_bytes::{Piece, add, number_u32};
-use seg_base::NoMemory;
+use seg_base::{BLOCK_SIZE, NoMemory};
 use std::alloc::Global;
 use std::marker::Model;
 
@@ -12,7 +12,7 @@ use std::marker::Model;
 pub struct ExtentNumber(pub u32);
 
 impl Model for ExtentNumber {
-    ghost use Rattle.std.specs.Prelude.{ℕ};
+    ghost use Rattle.seg_words.specs.Std.{ℕ};
 
     ghost Value = { ℕ };
 
@@ -22,7 +22,7 @@ impl Model for ExtentNumber {
 }
 
 impl Piece for ExtentNumber {
-    ghost use Rattle.std.specs.Prelude.{◌<◌, ◌^◌, refl};
+    ghost use Rattle.seg_words.specs.Std.{◌<◌, ◌^◌, refl};
     ghost use Rattle.segment_blocks.specs.Headers.{extent_bytes, extent_in};
     ghost use Rattle.segment_blocks.specs.HeaderAgain.{extent_again};
 
@@ -40,7 +40,7 @@ impl Piece for ExtentNumber {
         Ok(ExtentNumber(number_u32(bytes, 0)))
     }
 
-    fn add(&self, page: &mut [u8; 4096], at: usize) -> usize {
+    fn add(&self, page: &mut [u8; BLOCK_SIZE], at: usize) -> usize {
         let number = *self;
         add(page, at, &number.0.to_be_bytes())
     }

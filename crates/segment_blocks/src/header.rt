@@ -1,12 +1,14 @@
 // A segment's header.
-ghost use Rattle.std.specs.Prelude.{◌≡◌, ◌≤◌, ◌^◌, ◌<◌, [], false, List, ℕ, length, IfOk};
+ghost use Rattle.seg_words.specs.Std.{◌≡◌, ◌≤◌, ◌^◌, ◌<◌, [], false, List, ℕ, length, IfOk};
 ghost use Rattle.segment_blocks.specs.Headers.{Header, flag, fields_of, is_on, obj_in, extent_at, header_with, spelling_of_header};
 
 use crate::extent::ExtentNumber;
 use page_bytes::{
     PageForm, add, add_all, begin, head_bytes, number_u16, number_u32, number_u64, read_all,
 };
-use seg_base::{Dba, Lsn, NoMemory, Obj};
+use seg_base::{
+    BLOCK_SIZE, Dba, Lsn, MOST_EXTENTS, MOST_PCTFREE, MOST_TABLES, NoMemory, Obj, put_at,
+};
 use std::alloc::Global;
 use std::marker::Model;
 
@@ -26,7 +28,7 @@ pub struct SegmentHeader {
 }
 
 impl Model for SegmentHeader {
-    ghost use Rattle.std.specs.Prelude.{◌≤◌, length};
+    ghost use Rattle.seg_words.specs.Std.{◌≤◌, length};
     ghost use Rattle.segment_blocks.specs.Headers.{Header, HasLimits};
 
     ghost Value = { Header };
@@ -40,8 +42,8 @@ impl SegmentHeader {
     /// The header of a table without an extent, whose marks are 0 and whose rows may not be moved.
     pub fn new(alloc: Global, dba: Dba, obj: Obj, pctfree: u8) -> SegmentHeader
         requires least { 1 ≤ obj }
-        requires most { obj ≤ 32 }
-        requires pctfree { pctfree ≤ 50 }
+        requires most { obj ≤ MOST_TABLES }
+        requires pctfree { pctfree ≤ MOST_PCTFREE }
         ensures { result ≡ record { dba = dba; lsn = 0; obj = obj; pctfree = pctfree; movement = false; low = 0; high = 0; extents = [] } }
     {
         SegmentHeader {
@@ -76,7 +78,7 @@ impl SegmentHeader {
 
     pub fn pctfree(&self) -> u8
         ensures value { result ≡ self.now.pctfree }
-        ensures range { result ≤ 50 }
+        ensures range { result ≤ MOST_PCTFREE }
     {
         self.pctfree
     }
@@ -99,7 +101,7 @@ impl SegmentHeader {
     /// How many extents the table has.
     pub fn extents(&self) -> u16
         ensures count { result ≡ length self.now.extents }
-        ensures range { result ≤ 900 }
+        ensures range { result ≤ MOST_EXTENTS }
     {
         self.extents.len() as u16
     }
@@ -129,12 +131,12 @@ impl PageForm for SegmentHeader {
     ghost HasSpelling = { IsHeader };
 
     #[tactic(auto, unfolding(crate::specs::Headers::header_in))]
-    fn read(alloc: Global, bytes: &[u8; 4096]) -> Result<SegmentHeader, NoMemory> {
-        let count = number_u16(bytes, 28).min(900);
+    fn read(alloc: Global, bytes: &[u8; BLOCK_SIZE]) -> Result<SegmentHeader, NoMemory> {
+        let count = number_u16(bytes, 28).min(MOST_EXTENTS);
         read_with(alloc, count, bytes)
     }
 
-    fn write(&self, out: &mut [u8; 4096]) {
+    fn write(&self, out: &mut [u8; BLOCK_SIZE]) {
         let fields = fields_of(
             self.obj.0,
             self.pctfree,
@@ -152,9 +154,9 @@ impl PageForm for SegmentHeader {
 fn obj_in(code: u8) -> Obj
     ensures value { result ≡ obj_in code }
     ensures least { 1 ≤ result }
-    ensures most { result ≤ 32 }
+    ensures most { result ≤ MOST_TABLES }
 {
-    Obj(code.min(32).max(1))
+    Obj(code.min(MOST_TABLES).max(1))
 }
 
 fn is_on(code: u8) -> bool
@@ -169,8 +171,8 @@ fn flag(on: bool) -> u8
     if on { 1 } else { 0 }
 }
 
-fn read_with(alloc: Global, count: u16, bytes: &[u8; 4096]) -> Result<SegmentHeader, NoMemory>
-    requires { count ≤ 900 }
+fn read_with(alloc: Global, count: u16, bytes: &[u8; BLOCK_SIZE]) -> Result<SegmentHeader, NoMemory>
+    requires { count ≤ MOST_EXTENTS }
     ensures { IfOk result (λ header. header ≡ header_with count bytes.now) }
 {
     let (_, rest) = bytes.split_at(64);
@@ -179,7 +181,7 @@ fn read_with(alloc: Global, count: u16, bytes: &[u8; 4096]) -> Result<SegmentHea
         dba: Dba(number_u32(bytes, 4)),
         lsn: Lsn(number_u64(bytes, 8)),
         obj: obj_in(bytes[16]),
-        pctfree: bytes[17].min(50),
+        pctfree: bytes[17].min(MOST_PCTFREE),
         movement: is_on(bytes[18]),
         low: number_u32(bytes, 20),
         high: number_u32(bytes, 24),
@@ -191,63 +193,24 @@ fn read_with(alloc: Global, count: u16, bytes: &[u8; 4096]) -> Result<SegmentHea
 fn fields_of(obj: u8, pctfree: u8, movement: bool, low: u32, high: u32, count: u16) -> [u8; 48]
     ensures { result ≡ fields_of obj pctfree movement low high count }
 {
-    let l = low.to_be_bytes();
-    let h = high.to_be_bytes();
-    let n = count.to_be_bytes();
-    [
-        obj,
-        pctfree,
-        flag(movement),
-        0,
-        l[0],
-        l[1],
-        l[2],
-        l[3],
-        h[0],
-        h[1],
-        h[2],
-        h[3],
-        n[0],
-        n[1],
-        0,
-        0,
-        0,
-        0,
-        0,
-        0,
-        0,
-        0,
-        0,
-        0,
-        0,
-        0,
-        0,
-        0,
-        0,
-        0,
-        0,
-        0,
-        0,
-        0,
-        0,
-        0,
-        0,
-        0,
-        0,
-        0,
-        0,
-        0,
-        0,
-        0,
-        0,
-        0,
-        0,
-        0,
-    ]
+    let mut bytes = [0; 48];
+    bytes[0] = obj;
+    bytes[1] = pctfree;
+    bytes[2] = flag(movement);
+    put_at(&mut bytes, 4, &low.to_be_bytes());
+    put_at(&mut bytes, 8, &high.to_be_bytes());
+    put_at(&mut bytes, 12, &count.to_be_bytes());
+    bytes
 }
 
-fn write_page(dba: Dba, lsn: Lsn, fields: &[u8; 48], extents: &[ExtentNumber], out: &mut [u8; 4096])
-    requires { length extents.now ≤ 900 }
+fn write_page(
+    dba: Dba,
+    lsn: Lsn,
+    fields: &[u8; 48],
+    extents: &[ExtentNumber],
+    out: &mut [u8; BLOCK_SIZE],
+)
+    requires { length extents.now ≤ MOST_EXTENTS }
     ensures { (h : Header) → h.dba ≡ dba → h.lsn ≡ lsn → h.extents ≡ extents.now → fields.now ≡ fields_of h.obj h.pctfree h.movement h.low h.high (length h.extents) → out.new ≡ spelling_of_header h }
 {
     let start = begin(out);

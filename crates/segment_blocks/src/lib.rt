@@ -6,13 +6,12 @@ mod checkpoint;
 mod entry;
 mod extent;
 mod header;
-mod range;
 mod space;
 #[cfg(test)]
 mod tests;
 
 pub use catalogue::Catalogue;
 pub use checkpoint::CheckpointPage;
-pub use entry::{CatalogueEntry, TableEntry};
+pub use entry::{CatalogueEntry, NamedTable};
 pub use header::SegmentHeader;
 pub use space::SpaceBitmap;

@@ -1,10 +1,9 @@
 // The space bitmap, block 3.
-ghost use Rattle.std.specs.Prelude.{◌≡◌, ◌<◌, ◌≤◌, ◌^◌, ◌-◌, length, not, replicate, IfOk};
+ghost use Rattle.seg_words.specs.Std.{◌≡◌, ◌<◌, ◌≤◌, ◌^◌, ◌-◌, length, not, replicate, IfOk};
 ghost use Rattle.segment_blocks.specs.Spaces.{is_used, Finds, spelling_of_space, bits_in, HasBits, IsSpace};
 
-use crate::range::in_range;
-use page_bytes::{PageForm, add, begin, head_bytes, number_u32, number_u64};
-use seg_base::{Dba, Lsn, NoMemory};
+use page_bytes::{PageForm, add, begin, head_bytes, in_range, number_u32, number_u64};
+use seg_base::{BLOCK_SIZE, Dba, Lsn, NoMemory};
 use std::alloc::Global;
 use std::marker::Model;
 
@@ -145,7 +144,7 @@ impl PageForm for SpaceBitmap {
     ghost HasSpelling = { IsSpace };
 
     #[tactic(auto, unfolding(crate::specs::Spaces::space_in))]
-    fn read(_alloc: Global, bytes: &[u8; 4096]) -> Result<SpaceBitmap, NoMemory> {
+    fn read(_alloc: Global, bytes: &[u8; BLOCK_SIZE]) -> Result<SpaceBitmap, NoMemory> {
         let (_, rest) = bytes.split_at(24);
         let bits = read_bits(rest);
         Ok(SpaceBitmap {
@@ -156,14 +155,14 @@ impl PageForm for SpaceBitmap {
         })
     }
 
-    fn write(&self, out: &mut [u8; 4096]) {
+    fn write(&self, out: &mut [u8; BLOCK_SIZE]) {
         write_page(self.dba, self.lsn, self.lowerings, &self.bits, out);
     }
 
     ghost reads_again = { space_again };
 }
 
-fn write_page(dba: Dba, lsn: Lsn, lowerings: u64, bits: &[u8; 256], out: &mut [u8; 4096])
+fn write_page(dba: Dba, lsn: Lsn, lowerings: u64, bits: &[u8; 256], out: &mut [u8; BLOCK_SIZE])
     ensures { out.new ≡ spelling_of_space (record { dba = dba; lsn = lsn; lowerings = lowerings; bits = bits.now }) }
 {
     let start = begin(out);

@@ -1,14 +1,9 @@
 -- What is read from bytes is in the ranges of its fields.
-use Rattle.std.proofs.Common.{ℕ, zero, suc, ◌<◌, ◌^◌, List, get_or, drop, Option, arith}
-use Rattle.std.specs.Int.{w32, w64}
-use Rattle.std.specs.List.{AllByRecursion}
-use Rattle.seg_base.specs.declared.slot.UndoAddr.{UndoAddr}
-use Rattle.seg_base.specs.Fields.{number_in}
-use Rattle.page_bytes.specs.Pieces.{pieces_in}
-use Rattle.page_bytes.specs.Slots.{undo_as, UndoFits}
+use Rattle.seg_words.proofs.Std.{ℕ, zero, suc, ◌<◌, ◌^◌, List, get_or, drop, Option, arith, w32, w64, AllByRecursion}
+use Rattle.seg_words.specs.Types.{UndoAddr, number_in}
+use Rattle.page_bytes.specs.Types.{pieces_in, undo_as, UndoFits}
 use Rattle.page_bytes.proofs.Ranges.{IsBytes, bytes_drop, number_32, number_64, pieces_fit}
-use Rattle.txn_block.specs.EntryBytes.{entry_told, entry_in, IsEntry}
-use Rattle.txn_block.specs.Pages.{block_from, BlockFits}
+use Rattle.txn_block.specs.Types.{entry_told, entry_in, IsEntry, block_from, BlockFits}
 
 undo_fits : (b seq nth : ℕ) → b < 2 ^ 32 → seq < 2 ^ 64 → nth < 2 ^ 8 → UndoFits (undo_as b seq nth)
 undo_fits zero seq nth hb hs hn = tt

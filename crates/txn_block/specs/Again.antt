@@ -1,11 +1,7 @@
 -- A transaction table that is spelled is read.
-use Rattle.std.proofs.Common.{◌≡◌, ℕ, zero, suc, ◌-◌, ◌<◌, ◌^◌, List, ◌++◌, length, Option, Some, None, refl, sym, ap, ◌∙◌, arith}
-use Rattle.std.specs.Prelude.{replicate}
-use Rattle.std.specs.Int.{w32, w64}
-use Rattle.std.specs.List.{flat_map}
-use Rattle.std.proofs.lemmas.Nat.{from_be_bytes-to_be_bytes_4, from_be_bytes-to_be_bytes_8}
-use Rattle.seg_base.specs.Fields.{number_in}
-use Rattle.page_bytes.specs.Pieces.{pieces_in}
+use Rattle.seg_words.proofs.Std.{◌≡◌, ℕ, zero, suc, ◌-◌, ◌<◌, ◌^◌, List, ◌++◌, length, Option, Some, None, refl, sym, ap, ◌∙◌, arith, replicate, w32, w64, flat_map, from_be_bytes-to_be_bytes_4, from_be_bytes-to_be_bytes_8}
+use Rattle.seg_words.specs.Types.{number_in, BLOCK_SIZE, TXN_ENTRIES}
+use Rattle.page_bytes.specs.Types.{pieces_in}
 use Rattle.page_bytes.proofs.PiecesIn.{pieces_again}
 use Rattle.txn_block.specs.Tables.{TxnTable}
 use Rattle.txn_block.specs.EntryBytes.{entry_bytes, entry_in, IsEntry}
@@ -27,14 +23,14 @@ block_fits (Some b) h = h.1
 pub table_again : (t : TxnTable) → IsTable t → table_in (spelling t) ≡ t
 unfolding spelling table_in
 table_again t fits =
-    let zeros : List ℕ = replicate (4096 - length (front t)) 0 in
+    let zeros : List ℕ = replicate (BLOCK_SIZE - length (front t)) 0 in
     let e1 : number_in w32 (spelling t) 4 ≡ t.dba = from_be_bytes-to_be_bytes_4 t.dba fits.dba in
     let e2 : number_in w64 (spelling t) 8 ≡ t.lsn = from_be_bytes-to_be_bytes_8 t.lsn fits.lsn in
     let e3 : number_in w64 (spelling t) 16 ≡ t.control = from_be_bytes-to_be_bytes_8 t.control fits.control in
     let e4 : number_in w64 (spelling t) 24 ≡ t.last_txn = from_be_bytes-to_be_bytes_8 t.last_txn fits.last_txn in
     let e5 : number_in w64 (spelling t) 32 ≡ t.last_row = from_be_bytes-to_be_bytes_8 t.last_row fits.last_row in
     let e6 : number_in w32 (spelling t) 40 ≡ block_or_zero t.current_undo = from_be_bytes-to_be_bytes_4 (block_or_zero t.current_undo) (block_fits t.current_undo fits.current_undo) in
-    let e7 : pieces_in entry_in 32 96 (flat_map entry_bytes t.entries ++ zeros) ≡ t.entries
+    let e7 : pieces_in entry_in 32 TXN_ENTRIES (flat_map entry_bytes t.entries ++ zeros) ≡ t.entries
     = ap (λ (n : ℕ). pieces_in entry_in 32 n (flat_map entry_bytes t.entries ++ zeros)) (sym fits.count)
     ∙ pieces_again entry_bytes entry_in IsEntry 32 t.entries zeros length-entry_bytes entry_again fits.entries in
     rw (e1, e2, e3, e4, e5, e6, block_again t.current_undo fits.current_undo, e7) refl

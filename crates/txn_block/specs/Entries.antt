@@ -1,14 +1,11 @@
 -- Entries of the transaction table. Oracle Database Concepts, "Undo Segments" and "Transactions": a transaction has an
 -- entry in a table, which others use again once it has ended. That there are 96, and which is used next, is this
 -- engine's own.
-use Rattle.std.specs.Prelude.{ℕ, ◌==◌, Bool, true, false, List, find, Option, Some, None}
-use Rattle.seg_base.specs.declared.slot.UndoAddr.{UndoAddr}
+use Rattle.seg_words.specs.Std.{ℕ, ◌==◌, Bool, true, false, List, find, Option, Some, None}
+use Rattle.seg_words.specs.Types.{UndoAddr}
+use Rattle.txn_block.specs.OwnTypes.{Outcome, Active, Committed, RolledBack, TableEntry, Unused, Used}
 use Rattle.txn_block.specs.declared.entry.State as states
 use Rattle.txn_block.specs.declared.entry.State.TheVariants as state
-use Rattle.txn_block.specs.declared.entry.Outcome.{Outcome}
-use Rattle.txn_block.specs.declared.entry.Outcome.TheVariants.{Active, Committed, RolledBack}
-use Rattle.txn_block.specs.declared.entry.TableEntry.{TableEntry}
-use Rattle.txn_block.specs.declared.entry.TableEntry.TheVariants.{Unused, Used}
 
 abbrev pub state_of_outcome : Outcome → states.State
 state_of_outcome Active = state.Active

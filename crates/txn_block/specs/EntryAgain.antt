@@ -1,16 +1,8 @@
 -- An entry that is spelled is read.
-use Rattle.std.proofs.Common.{◌≡◌, ℕ, zero, suc, ◌<◌, ◌^◌, length, Option, Some, None, refl, arith}
-use Rattle.std.specs.Int.{w32, w64}
-use Rattle.std.proofs.lemmas.Nat.{from_be_bytes-to_be_bytes_4, from_be_bytes-to_be_bytes_8}
-use Rattle.seg_base.specs.declared.slot.UndoAddr.{UndoAddr}
-use Rattle.seg_base.specs.Fields.{number_in}
-use Rattle.seg_base.specs.Images.{undo_or_zeros}
-use Rattle.page_bytes.specs.Slots.{undo_as, UndoFits}
-use Rattle.txn_block.specs.declared.entry.Outcome.{Outcome}
-use Rattle.txn_block.specs.declared.entry.Outcome.TheVariants.{Active, Committed, RolledBack}
-use Rattle.txn_block.specs.declared.entry.TxnEntry.{TxnEntry}
-use Rattle.txn_block.specs.declared.entry.TableEntry.{TableEntry}
-use Rattle.txn_block.specs.declared.entry.TableEntry.TheVariants.{Unused, Used}
+use Rattle.seg_words.proofs.Std.{◌≡◌, ℕ, zero, suc, ◌<◌, ◌^◌, length, Option, Some, None, refl, arith, w32, w64, from_be_bytes-to_be_bytes_4, from_be_bytes-to_be_bytes_8}
+use Rattle.seg_words.specs.Types.{UndoAddr, number_in, undo_or_zeros}
+use Rattle.page_bytes.specs.Types.{undo_as, UndoFits}
+use Rattle.txn_block.specs.OwnTypes.{Outcome, Active, Committed, RolledBack, TxnEntry, TableEntry, Unused, Used}
 use Rattle.txn_block.specs.EntryBytes.{outcome_code, number_or_zero, used_bytes, entry_bytes, entry_told, entry_in, IsUsed, IsEntry}
 
 pub length-entry_bytes : (e : TableEntry) → length (entry_bytes e) ≡ 32

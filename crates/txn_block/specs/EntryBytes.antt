@@ -1,15 +1,8 @@
 -- The 32 bytes of an entry. The layout is this engine's own.
-use Rattle.std.specs.Prelude.{ℕ, zero, suc, ◌<◌, ◌^◌, List, [], ◌∷◌, ◌++◌, replicate, slice_index, Option}
-use Rattle.std.specs.Int.{w32, w64, to_be_bytes}
-use Rattle.seg_base.specs.declared.slot.UndoAddr.{UndoAddr}
-use Rattle.seg_base.specs.Fields.{number_in}
-use Rattle.seg_base.specs.Images.{undo_or_zeros, undo_bytes}
-use Rattle.page_bytes.specs.Slots.{undo_as, UndoFits}
-use Rattle.txn_block.specs.declared.entry.Outcome.{Outcome}
-use Rattle.txn_block.specs.declared.entry.Outcome.TheVariants.{Active, Committed, RolledBack}
-use Rattle.txn_block.specs.declared.entry.TxnEntry.{TxnEntry}
-use Rattle.txn_block.specs.declared.entry.TableEntry.{TableEntry}
-use Rattle.txn_block.specs.declared.entry.TableEntry.TheVariants.{Unused, Used}
+use Rattle.seg_words.specs.Std.{ℕ, zero, suc, ◌<◌, ◌^◌, List, [], ◌∷◌, ◌++◌, replicate, slice_index, Option, w32, w64, to_be_bytes}
+use Rattle.seg_words.specs.Types.{UndoAddr, number_in, undo_or_zeros, undo_bytes}
+use Rattle.page_bytes.specs.Types.{undo_as, UndoFits}
+use Rattle.txn_block.specs.OwnTypes.{Outcome, Active, Committed, RolledBack, TxnEntry, TableEntry, Unused, Used}
 
 -- 0 is unused
 abbrev pub outcome_code : Outcome → ℕ

@@ -1,11 +1,8 @@
 -- The page of the transaction table.
-use Rattle.std.specs.Prelude.{◌≡◌, ℕ, zero, suc, ◌<◌, ◌^◌, List, ◌++◌, length, drop, Option, Some, None}
-use Rattle.std.specs.Int.{w32, w64, to_be_bytes}
-use Rattle.std.specs.List.{flat_map, AllByRecursion}
-use Rattle.seg_base.specs.Fields.{number_in}
-use Rattle.page_bytes.specs.Pages.{page_of, head_bytes}
-use Rattle.page_bytes.specs.Pieces.{pieces_in}
-use Rattle.txn_block.specs.declared.entry.TableEntry.{TableEntry}
+use Rattle.seg_words.specs.Std.{◌≡◌, ℕ, zero, suc, ◌<◌, ◌^◌, List, ◌++◌, length, drop, Option, Some, None, w32, w64, to_be_bytes, flat_map, AllByRecursion}
+use Rattle.seg_words.specs.Types.{number_in, TXN_ENTRIES}
+use Rattle.page_bytes.specs.Types.{page_of, head_bytes, pieces_in}
+use Rattle.txn_block.specs.OwnTypes.{TableEntry}
 use Rattle.txn_block.specs.Tables.{TxnTable}
 use Rattle.txn_block.specs.EntryBytes.{entry_bytes, entry_in, IsEntry}
 
@@ -37,7 +34,7 @@ table_in bytes = record {
   last_txn = number_in w64 bytes 24;
   last_row = number_in w64 bytes 32;
   current_undo = block_from (number_in w32 bytes 40);
-  entries = pieces_in entry_in 32 96 (drop 48 bytes);
+  entries = pieces_in entry_in 32 TXN_ENTRIES (drop 48 bytes);
 }
 
 abbrev pub BlockFits : Option ℕ → Type 0
@@ -47,7 +44,7 @@ BlockFits (Some b) = (0 < b) × (b < 2 ^ 32)
 -- what each table has: 96 entries that have a spelling
 pub record HasEntries (current : Option ℕ) (entries : List TableEntry) : Type 0 where
   pub undo : BlockFits current
-  pub count : length entries ≡ 96
+  pub count : length entries ≡ TXN_ENTRIES
   pub each : AllByRecursion IsEntry entries
 
 -- the tables that have a spelling
@@ -58,5 +55,5 @@ pub record IsTable (t : TxnTable) : Type 0 where
   pub last_txn : t.last_txn < 2 ^ 64
   pub last_row : t.last_row < 2 ^ 64
   pub current_undo : BlockFits t.current_undo
-  pub count : length t.entries ≡ 96
+  pub count : length t.entries ≡ TXN_ENTRIES
   pub entries : AllByRecursion IsEntry t.entries

@@ -1,7 +1,6 @@
 -- The transaction table as contracts see it, and which entry is used next.
-use Rattle.std.specs.Prelude.{◌≡◌, ◌⊎◌, ℕ, ◌<◌, ◌≤◌, Bool, true, false, List, length, slice_index_or, nat_le, Option, Some, None, if◌then◌else◌}
-use Rattle.txn_block.specs.declared.entry.TableEntry.{TableEntry}
-use Rattle.txn_block.specs.declared.entry.TableEntry.TheVariants.{Unused}
+use Rattle.seg_words.specs.Std.{◌≡◌, ◌⊎◌, ℕ, ◌<◌, ◌≤◌, Bool, true, false, List, length, slice_index_or, nat_le, Option, Some, None, if◌then◌else◌}
+use Rattle.txn_block.specs.OwnTypes.{TableEntry, Unused}
 use Rattle.txn_block.specs.Entries.{is_unused, is_rolled_back, committed, is_active}
 
 pub record TxnTable : Type 0 where

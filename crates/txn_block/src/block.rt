@@ -1,20 +1,23 @@
 // The transaction table.
-ghost use Rattle.std.specs.Prelude.{◌≡◌, ◌<◌, ◌≤◌, ◌^◌, [], replicate, ◌++◌, length, slice_get, position, option_copied, IfOk, IfSome, None};
+ghost use Rattle.seg_words.specs.Std.{◌≡◌, ◌<◌, ◌≤◌, ◌^◌, [], replicate, ◌++◌, length, slice_get, position, option_copied, IfOk, IfSome, None, flat_map};
 ghost use Rattle.txn_block.specs.declared.entry.TableEntry.TheVariants.{Unused};
 ghost use Rattle.txn_block.specs.Entries.{names, state_in, state_told, last_undo_in, undo_told, told};
 ghost use Rattle.txn_block.specs.Tables.{TxnTable, TakesNext};
-ghost use Rattle.std.specs.List.{flat_map};
-ghost use Rattle.page_bytes.specs.Pages.{page_of};
+ghost use Rattle.page_bytes.specs.Types.{page_of};
 ghost use Rattle.txn_block.specs.EntryBytes.{entry_bytes};
 ghost use Rattle.txn_block.specs.Pages.{IsTable, BlockFits, block_from};
 
 use crate::entry::{State, TableEntry, state_of_outcome};
 use crate::page::{block_from, numbers};
 use crate::search::{named, next, place_named};
-use page_bytes::{PageForm, add, add_all, begin, head_bytes, number_u32, number_u64, read_all};
-use seg_base::{Dba, Lsn, NoMemory, RowNo, Scn, TxnId, UndoAddr};
+use page_bytes::{
+    PageForm, add, add_all, begin, head_bytes, in_range, number_u32, number_u64, read_all,
+};
+use seg_base::{BLOCK_SIZE, Dba, Lsn, NoMemory, RowNo, Scn, TXN_ENTRIES, TxnId, UndoAddr};
 use std::alloc::Global;
 use std::marker::Model;
+
+const ENTRIES: usize = TXN_ENTRIES as usize;
 
 /// The transaction table: 96 entries, the control number, which is the greatest commit number that an entry forgot, and
 /// the last numbers that were given.
@@ -30,7 +33,7 @@ pub struct TxnBlock {
 }
 
 impl Model for TxnBlock {
-    ghost use Rattle.std.specs.Prelude.{length};
+    ghost use Rattle.seg_words.specs.Std.{length};
     ghost use Rattle.txn_block.specs.Tables.{TxnTable};
     ghost use Rattle.txn_block.specs.Pages.{HasEntries};
 
@@ -44,7 +47,7 @@ impl Model for TxnBlock {
 impl TxnBlock {
     /// A table that no transaction has used.
     pub fn new(alloc: Global, dba: Dba) -> Result<TxnBlock, NoMemory>
-        ensures { IfOk result (λ t. t ≡ record { dba = dba; lsn = 0; control = 0; last_txn = 0; last_row = 0; current_undo = None; entries = replicate 96 Unused }) }
+        ensures { IfOk result (λ t. t ≡ record { dba = dba; lsn = 0; control = 0; last_txn = 0; last_row = 0; current_undo = None; entries = replicate TXN_ENTRIES Unused }) }
     {
         Ok(TxnBlock {
             dba,
@@ -53,7 +56,7 @@ impl TxnBlock {
             last_txn: TxnId(0),
             last_row: RowNo(0),
             current_undo: None,
-            entries: Vec::from_slice(alloc, &[TableEntry::Unused; 96])?,
+            entries: Vec::from_slice(alloc, &[TableEntry::Unused; ENTRIES])?,
         })
     }
 
@@ -140,13 +143,10 @@ impl TxnBlock {
         ensures { IsTable self.now }
     {
         let _entries = &self.entries;
-        in_range(
-            self.dba.0,
-            self.lsn.0,
-            self.control.0,
-            self.last_txn.0,
-            self.last_row.0,
-        );
+        in_range(self.dba.0, self.lsn.0);
+        in_range(self.dba.0, self.control.0);
+        in_range(self.dba.0, self.last_txn.0);
+        in_range(self.dba.0, self.last_row.0);
     }
 }
 
@@ -160,9 +160,9 @@ impl PageForm for TxnBlock {
 
     ghost HasSpelling = { IsTable };
 
-    fn read(alloc: Global, bytes: &[u8; 4096]) -> Result<TxnBlock, NoMemory> {
+    fn read(alloc: Global, bytes: &[u8; BLOCK_SIZE]) -> Result<TxnBlock, NoMemory> {
         let (_, rest) = bytes.split_at(48);
-        let entries = read_all(alloc, 96, rest)?;
+        let entries = read_all(alloc, TXN_ENTRIES as u16, rest)?;
         Ok(TxnBlock {
             dba: Dba(number_u32(bytes, 4)),
             lsn: Lsn(number_u64(bytes, 8)),
@@ -174,7 +174,7 @@ impl PageForm for TxnBlock {
         })
     }
 
-    fn write(&self, out: &mut [u8; 4096]) {
+    fn write(&self, out: &mut [u8; BLOCK_SIZE]) {
         let head = head_bytes(2, 0, 0, self.dba, self.lsn);
         let numbers = numbers(
             self.control,
@@ -188,24 +188,19 @@ impl PageForm for TxnBlock {
     ghost reads_again = { table_again };
 }
 
-fn write_table(head: &[u8; 16], numbers: &[u8; 32], entries: &[TableEntry], out: &mut [u8; 4096])
-    requires { length entries.now ≡ 96 }
+fn write_table(
+    head: &[u8; 16],
+    numbers: &[u8; 32],
+    entries: &[TableEntry],
+    out: &mut [u8; BLOCK_SIZE],
+)
+    requires { length entries.now ≡ TXN_ENTRIES }
     ensures { out.new ≡ page_of ((head.now ++ numbers.now) ++ flat_map entry_bytes entries.now) }
 {
     let start = begin(out);
     let front = add(out, start, head);
     let entries_at = add(out, front, numbers);
     add_all(out, entries_at, entries);
-}
-
-fn in_range(dba: u32, lsn: u64, control: u64, last_txn: u64, last_row: u64)
-    ensures dba { dba < 2 ^ 32 }
-    ensures lsn { lsn < 2 ^ 64 }
-    ensures control { control < 2 ^ 64 }
-    ensures last_txn { last_txn < 2 ^ 64 }
-    ensures last_row { last_row < 2 ^ 64 }
-{
-    let _numbers = (dba, lsn, control, last_txn, last_row);
 }
 
 fn state_told(found: Option<&TableEntry>) -> State

@@ -1,12 +1,11 @@
 // The bytes of an entry and of the numbers before the entries.
-ghost use Rattle.std.specs.Prelude.{◌≡◌, ◌<◌, ◌^◌};
+ghost use Rattle.seg_words.specs.Std.{◌≡◌, ◌<◌, ◌^◌};
 ghost use Rattle.txn_block.specs.EntryBytes.{outcome_code, number_or_zero, used_bytes, entry_bytes, entry_told, entry_in, IsEntry};
 ghost use Rattle.txn_block.specs.Pages.{block_or_zero, block_from, number_bytes};
-ghost use Rattle.page_bytes.specs.Slots.{undo_as};
 
 use crate::entry::{Outcome, TableEntry, TxnEntry};
-use page_bytes::{Piece, add, number_u32, number_u64};
-use seg_base::{NoMemory, RowNo, Scn, TxnId, UndoAddr, undo_or_zeros};
+use page_bytes::{Piece, add, number_u32, number_u64, undo_as};
+use seg_base::{BLOCK_SIZE, NoMemory, RowNo, Scn, TxnId, UndoAddr, put_at, undo_or_zeros};
 use std::alloc::Global;
 
 fn outcome_code(outcome: Outcome) -> u8
@@ -31,45 +30,15 @@ fn number_or_zero(outcome: Outcome) -> u64
 fn used_bytes(entry: &TxnEntry) -> [u8; 32]
     ensures { result ≡ used_bytes entry.now }
 {
-    let t = entry.txn.0.to_be_bytes();
-    let n = number_or_zero(entry.outcome).to_be_bytes();
     let undo = undo_or_zeros(&entry.last_undo);
-    let b = undo.block.to_be_bytes();
-    let s = undo.seq.to_be_bytes();
-    [
-        t[0],
-        t[1],
-        t[2],
-        t[3],
-        t[4],
-        t[5],
-        t[6],
-        t[7],
-        outcome_code(entry.outcome),
-        n[0],
-        n[1],
-        n[2],
-        n[3],
-        n[4],
-        n[5],
-        n[6],
-        n[7],
-        b[0],
-        b[1],
-        b[2],
-        b[3],
-        s[0],
-        s[1],
-        s[2],
-        s[3],
-        s[4],
-        s[5],
-        s[6],
-        s[7],
-        undo.nth,
-        0,
-        0,
-    ]
+    let mut bytes = [0; 32];
+    put_at(&mut bytes, 0, &entry.txn.0.to_be_bytes());
+    bytes[8] = outcome_code(entry.outcome);
+    put_at(&mut bytes, 9, &number_or_zero(entry.outcome).to_be_bytes());
+    put_at(&mut bytes, 17, &undo.block.to_be_bytes());
+    put_at(&mut bytes, 21, &undo.seq.to_be_bytes());
+    bytes[29] = undo.nth;
+    bytes
 }
 
 #[tactic(auto, unfolding(crate::specs::EntryBytes::entry_bytes))]
@@ -79,15 +48,6 @@ fn entry_bytes(entry: &TableEntry) -> [u8; 32]
     match entry {
         TableEntry::Unused => [0; 32],
         TableEntry::Used(entry) => used_bytes(entry),
-    }
-}
-
-fn undo_as(block: u32, seq: u64, nth: u8) -> Option<UndoAddr>
-    ensures { result ≡ undo_as block seq nth }
-{
-    match block {
-        0 => None,
-        block => Some(UndoAddr { block, seq, nth }),
     }
 }
 
@@ -128,7 +88,7 @@ impl Piece for TableEntry {
         Ok(entry_told(number_u64(bytes, 0), bytes[8], number_u64(bytes, 9), undo))
     }
 
-    fn add(&self, page: &mut [u8; 4096], at: usize) -> usize {
+    fn add(&self, page: &mut [u8; BLOCK_SIZE], at: usize) -> usize {
         add(page, at, &entry_bytes(self))
     }
 
@@ -165,12 +125,10 @@ pub fn numbers(
 ) -> [u8; 32]
     ensures { result ≡ number_bytes control last_txn last_row current_undo }
 {
-    let c = control.0.to_be_bytes();
-    let t = last_txn.0.to_be_bytes();
-    let r = last_row.0.to_be_bytes();
-    let b = block_or_zero(current_undo).to_be_bytes();
-    [
-        c[0], c[1], c[2], c[3], c[4], c[5], c[6], c[7], t[0], t[1], t[2], t[3], t[4], t[5], t[6],
-        t[7], r[0], r[1], r[2], r[3], r[4], r[5], r[6], r[7], b[0], b[1], b[2], b[3], 0, 0, 0, 0,
-    ]
+    let mut bytes = [0; 32];
+    put_at(&mut bytes, 0, &control.0.to_be_bytes());
+    put_at(&mut bytes, 8, &last_txn.0.to_be_bytes());
+    put_at(&mut bytes, 16, &last_row.0.to_be_bytes());
+    put_at(&mut bytes, 24, &block_or_zero(current_undo).to_be_bytes());
+    bytes
 }

@@ -1,8 +1,6 @@
 -- The holder of the parts behind a place.
-use Rattle.std.proofs.Common.{◌≡◌, ℕ, ◌+◌, ◌<◌, ◌≤◌, Bool, List, length, drop, get_or, sym, ap, ◌∙◌, None}
-use Rattle.std.proofs.lemmas.List.{drop_more, drop_all}
-use Rattle.undo_block.specs.declared.part.Part.{Part}
-use Rattle.undo_block.specs.Parts.{holder_of, with_part}
+use Rattle.seg_words.proofs.Std.{◌≡◌, ℕ, ◌+◌, ◌<◌, ◌≤◌, Bool, List, length, drop, get_or, sym, ap, ◌∙◌, None, drop_more, drop_all}
+use Rattle.undo_block.specs.Types.{Part, holder_of, with_part}
 
 pub none_held : (ended : ℕ → Bool) (ps : List Part) (i : ℕ) → length ps ≤ i → holder_of ended (drop i ps) ≡ None
 none_held ended ps i le = ap (holder_of ended) (drop_all i ps le)

@@ -1,10 +1,8 @@
 -- Parts written one behind the other, and the page in three pieces.
-use Rattle.std.proofs.Common.{◌≡◌, ℕ, List, ◌++◌, ap, ◌∙◌, append_assoc}
-use Rattle.std.specs.List.{flat_map}
-use Rattle.seg_base.specs.Images.{slot_bytes}
-use Rattle.page_bytes.specs.Pages.{head_bytes, page_of}
-use Rattle.undo_block.specs.declared.part.Part.{Part}
-use Rattle.undo_block.specs.UndoPage.{UndoPage, part_head, part_bytes, fields_of, spelling}
+use Rattle.seg_words.proofs.Std.{◌≡◌, ℕ, List, ◌++◌, ap, ◌∙◌, append_assoc, flat_map}
+use Rattle.seg_words.specs.Types.{slot_bytes}
+use Rattle.page_bytes.specs.Types.{head_bytes, page_of}
+use Rattle.undo_block.specs.Types.{Part, UndoPage, part_head, part_bytes, fields_of, spelling}
 
 -- a part behind a front, in its three pieces
 pub part_added : (front head slot row : List ℕ) (p : Part) → head ≡ part_head p → slot ≡ slot_bytes p.old → row ≡ p.old.bytes → ((front ++ head) ++ slot) ++ row ≡ front ++ part_bytes p

@@ -1,18 +1,8 @@
 -- An undo block's page that is spelled is read.
-use Rattle.std.proofs.Common.{◌≡◌, ℕ, zero, suc, ◌+◌, ◌-◌, ◌*◌, ◌<◌, ◌≤◌, ◌^◌, false, List, [], ◌∷◌, ◌++◌, length, take, drop, refl, ap, ◌∙◌, append_assoc, arith, Option, Some, None}
-use Rattle.std.specs.Prelude.{replicate, nat_lt}
-use Rattle.std.specs.Int.{w16, w32, w64}
-use Rattle.std.specs.List.{flat_map, AllByRecursion}
-use Rattle.std.proofs.lemmas.List.{length-append}
-use Rattle.std.proofs.lemmas.List.Concat.{flat_map-cons}
-use Rattle.std.proofs.lemmas.List.Sums.{sum_by-cons}
-use Rattle.std.proofs.lemmas.Nat.{from_be_bytes-to_be_bytes_2, from_be_bytes-to_be_bytes_4, from_be_bytes-to_be_bytes_8}
-use Rattle.std.proofs.lemmas.Bool.{le-ltb}
-use Rattle.seg_base.specs.declared.undo.UndoPlace.{UndoPlace}
-use Rattle.seg_base.specs.Fields.{number_in}
-use Rattle.seg_base.specs.Images.{slot_bytes}
+use Rattle.seg_words.proofs.Std.{◌≡◌, ℕ, zero, suc, ◌+◌, ◌-◌, ◌*◌, ◌<◌, ◌≤◌, ◌^◌, false, List, [], ◌∷◌, ◌++◌, length, take, drop, refl, ap, ◌∙◌, append_assoc, arith, Option, Some, None, replicate, nat_lt, w16, w32, w64, flat_map, AllByRecursion, length-append, flat_map-cons, sum_by-cons, from_be_bytes-to_be_bytes_2, from_be_bytes-to_be_bytes_4, from_be_bytes-to_be_bytes_8, le-ltb}
+use Rattle.seg_words.specs.Types.{UndoPlace, number_in, slot_bytes, BLOCK_SIZE, UNDO_PART_SIZE}
 use Rattle.page_bytes.specs.declared.slot.SlotFields.{SlotFields}
-use Rattle.page_bytes.specs.Slots.{fields_in, row_len, slot_as}
+use Rattle.page_bytes.specs.Types.{fields_in, row_len, slot_as}
 use Rattle.page_bytes.proofs.Fronts.{take_front, drop_front}
 use Rattle.page_bytes.proofs.SlotsAgain.{fields_of as slot_fields, length-slot_bytes, fields_again, slot_again, row_len_again}
 use Rattle.undo_block.specs.declared.part.Part.{Part}
@@ -26,7 +16,7 @@ length-part_head p = refl
 group : Part → List ℕ
 group p = part_head p ++ slot_bytes p.old
 
-length-group : (p : Part) → length (group p) ≡ 64
+length-group : (p : Part) → length (group p) ≡ UNDO_PART_SIZE
 unfolding group
 length-group p = length-append (part_head p) (slot_bytes p.old) ∙ ap (λ (n : ℕ). 24 + n) (length-slot_bytes p.old)
 
@@ -41,7 +31,7 @@ length-parts (p ∷ ps) =
     omega (arith, one, length-part_bytes p, length-parts ps, sum_by-cons part_size p ps)
 
 -- each part takes 64 bytes at least
-pub few_parts : (ps : List Part) → 64 * length ps ≤ used_by ps
+pub few_parts : (ps : List Part) → UNDO_PART_SIZE * length ps ≤ used_by ps
 few_parts [] = omega arith
 few_parts (p ∷ ps) = omega (arith, few_parts ps, sum_by-cons part_size p ps)
 
@@ -73,10 +63,10 @@ part_again p fits =
     let e4 : slot_as (fields_in (drop 24 (group p))) p.old.bytes ≡ p.old = ap (λ (f : SlotFields). slot_as f p.old.bytes) (slot_of_group p fits) ∙ slot_again p.old fits.old in
     rw (e1, e2, e3, e4, place_again p.previous fits.previous) refl
 
-pub next_parts : (n : ℕ) (bytes : List ℕ) → 64 ≤ length bytes → parts_in (suc n) bytes ≡ part_from (take 64 bytes) (take (len_in (take 64 bytes)) (drop 64 bytes)) ∷ parts_in n (drop (len_in (take 64 bytes)) (drop 64 bytes))
+pub next_parts : (n : ℕ) (bytes : List ℕ) → UNDO_PART_SIZE ≤ length bytes → parts_in (suc n) bytes ≡ part_from (take UNDO_PART_SIZE bytes) (take (len_in (take UNDO_PART_SIZE bytes)) (drop UNDO_PART_SIZE bytes)) ∷ parts_in n (drop (len_in (take UNDO_PART_SIZE bytes)) (drop UNDO_PART_SIZE bytes))
 unfolding parts_in
 next_parts n bytes le =
-    let long : nat_lt (length bytes) 64 ≡ false = le-ltb (length bytes) 64 le in
+    let long : nat_lt (length bytes) UNDO_PART_SIZE ≡ false = le-ltb (length bytes) UNDO_PART_SIZE le in
     rw long refl
 
 -- parts, whatever follows them
@@ -85,11 +75,11 @@ unfolding part_bytes group
 one_part p n ps behind fits others =
     let row : List ℕ = p.old.bytes in
     let whole : part_bytes p ++ behind ≡ group p ++ (row ++ behind) = append_assoc (group p) row behind in
-    let long : 64 ≤ length (group p ++ (row ++ behind)) = omega (arith, length-append (group p) (row ++ behind), length-group p) in
-    let front : take 64 (group p ++ (row ++ behind)) ≡ group p = take_front (group p) (row ++ behind) 64 (length-group p) in
-    let back : drop 64 (group p ++ (row ++ behind)) ≡ row ++ behind = drop_front (group p) (row ++ behind) 64 (length-group p) in
+    let long : UNDO_PART_SIZE ≤ length (group p ++ (row ++ behind)) = omega (arith, length-append (group p) (row ++ behind), length-group p) in
+    let front : take UNDO_PART_SIZE (group p ++ (row ++ behind)) ≡ group p = take_front (group p) (row ++ behind) UNDO_PART_SIZE (length-group p) in
+    let back : drop UNDO_PART_SIZE (group p ++ (row ++ behind)) ≡ row ++ behind = drop_front (group p) (row ++ behind) UNDO_PART_SIZE (length-group p) in
     ap (parts_in (suc n)) whole ∙ next_parts n (group p ++ (row ++ behind)) long
-    ∙ ap (λ (g : List ℕ). part_from g (take (len_in g) (drop 64 (group p ++ (row ++ behind)))) ∷ parts_in n (drop (len_in g) (drop 64 (group p ++ (row ++ behind))))) front
+    ∙ ap (λ (g : List ℕ). part_from g (take (len_in g) (drop UNDO_PART_SIZE (group p ++ (row ++ behind)))) ∷ parts_in n (drop (len_in g) (drop UNDO_PART_SIZE (group p ++ (row ++ behind))))) front
     ∙ ap (λ (b : List ℕ). part_from (group p) (take (len_in (group p)) b) ∷ parts_in n (drop (len_in (group p)) b)) back
     ∙ ap (λ (k : ℕ). part_from (group p) (take k (row ++ behind)) ∷ parts_in n (drop k (row ++ behind))) (len_again p fits)
     ∙ ap (λ (r : List ℕ). part_from (group p) r ∷ parts_in n (drop (length row) (row ++ behind))) (take_front row behind (length row) refl)
@@ -108,7 +98,7 @@ parts_again (p ∷ ps) rest fits =
 pub page_again : (u : UndoPage) → IsUndoPage u → page_in (spelling u) ≡ u
 unfolding spelling page_in
 page_again u fits =
-    let zeros : List ℕ = replicate (4096 - length (front_of u)) 0 in
+    let zeros : List ℕ = replicate (BLOCK_SIZE - length (front_of u)) 0 in
     let e1 : number_in w32 (spelling u) 4 ≡ u.dba = from_be_bytes-to_be_bytes_4 u.dba fits.dba in
     let e2 : number_in w64 (spelling u) 8 ≡ u.lsn = from_be_bytes-to_be_bytes_8 u.lsn fits.lsn in
     let e3 : number_in w64 (spelling u) 16 ≡ u.sequence = from_be_bytes-to_be_bytes_8 u.sequence fits.sequence in
@@ -117,4 +107,4 @@ page_again u fits =
     ap (λ (n : ℕ). parts_at n (spelling u)) e4 ∙ rw (e1, e2, e3, e5) refl
   where
     parts_at : ℕ → List ℕ → UndoPage
-    parts_at n bytes = record { dba = number_in w32 bytes 4; lsn = number_in w64 bytes 8; sequence = number_in w64 bytes 16; parts = parts_in n (drop 64 bytes) }
+    parts_at n bytes = record { dba = number_in w32 bytes 4; lsn = number_in w64 bytes 8; sequence = number_in w64 bytes 16; parts = parts_in n (drop UNDO_PART_SIZE bytes) }

@@ -3,3 +3,4 @@ pub mod Parts
 pub mod UndoPage
 pub mod Again
 pub mod Held
+pub mod Types

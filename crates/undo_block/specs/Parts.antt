@@ -1,12 +1,12 @@
 -- Parts of undo: the old image of one slot, with what leads to the transaction's undo before it. Oracle Database Concepts,
 -- "Undo Segments"; the sizes and the address of a part are this engine's own.
-use Rattle.std.specs.Prelude.{ℕ, ◌+◌, ◌==◌, min, Bool, not, ◌&&◌, if◌then◌else◌, List, [], ◌∷◌, length, Option, Some, None}
-use Rattle.std.specs.List.{sum_by}
+use Rattle.seg_words.specs.Std.{ℕ, ◌+◌, ◌==◌, min, Bool, not, ◌&&◌, if◌then◌else◌, List, [], ◌∷◌, length, Option, Some, None, sum_by}
+use Rattle.seg_words.specs.Types.{UNDO_PART_SIZE}
 use Rattle.undo_block.specs.declared.part.Part.{Part}
 
 -- 64 bytes, and those of the old row
 abbrev pub part_size : Part → ℕ
-part_size p = 64 + length p.old.bytes
+part_size p = UNDO_PART_SIZE + length p.old.bytes
 
 abbrev pub used_by : List Part → ℕ
 used_by ps = sum_by part_size ps

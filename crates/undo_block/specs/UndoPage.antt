@@ -1,12 +1,7 @@
 -- The page of an undo block: its one spelling, and what the fields of any page read as. The layout is this engine's own.
-use Rattle.std.specs.Prelude.{◌≡◌, ℕ, zero, suc, ◌<◌, ◌≤◌, ◌^◌, nat_lt, if◌then◌else◌, List, [], ◌∷◌, ◌++◌, length, slice_index, take, drop, replicate, Option, Some, None, Result, Ok, Err}
-use Rattle.std.specs.Int.{w16, w32, w64, to_be_bytes}
-use Rattle.std.specs.List.{flat_map, AllByRecursion}
-use Rattle.seg_base.specs.declared.undo.UndoPlace.{UndoPlace}
-use Rattle.seg_base.specs.Fields.{number_in}
-use Rattle.seg_base.specs.Images.{slot_bytes}
-use Rattle.page_bytes.specs.Pages.{page_of, head_bytes, first_wrong}
-use Rattle.page_bytes.specs.Slots.{fields_in, row_len, slot_as, IsSlot}
+use Rattle.seg_words.specs.Std.{◌≡◌, ℕ, zero, suc, ◌<◌, ◌≤◌, ◌^◌, nat_lt, if◌then◌else◌, List, [], ◌∷◌, ◌++◌, length, slice_index, take, drop, replicate, Option, Some, None, Result, Ok, Err, w16, w32, w64, to_be_bytes, flat_map, AllByRecursion}
+use Rattle.seg_words.specs.Types.{UndoPlace, number_in, slot_bytes, BLOCK_SIZE, BLOCK_ROOM, UNDO_PART_SIZE}
+use Rattle.page_bytes.specs.Types.{page_of, head_bytes, first_wrong, fields_in, row_len, slot_as, IsSlot}
 use Rattle.undo_block.specs.declared.part.Part.{Part}
 use Rattle.undo_block.specs.declared.fault.UndoFault.{UndoFault}
 use Rattle.undo_block.specs.declared.fault.UndoFault.TheVariants.{NoRoom, BadPage, NoMemory}
@@ -19,7 +14,7 @@ pub record UndoPage : Type 0 where
   pub sequence : ℕ
   pub parts : List Part
 
--- none is block 0, place 0
+-- no place is written as block 0, place 0
 abbrev pub previous_or_zeros : Option UndoPlace → UndoPlace
 previous_or_zeros None = record { block = 0; nth = 0 }
 previous_or_zeros (Some p) = p
@@ -65,11 +60,11 @@ part_from g row = record {
 unfoldable pub parts_in : ℕ → List ℕ → List Part
 parts_in zero bytes = []
 parts_in (suc n) bytes =
-    if nat_lt (length bytes) 64 then []
-    else part_from (take 64 bytes) (take (len_in (take 64 bytes)) (drop 64 bytes)) ∷ parts_in n (drop (len_in (take 64 bytes)) (drop 64 bytes))
+    if nat_lt (length bytes) UNDO_PART_SIZE then []
+    else part_from (take UNDO_PART_SIZE bytes) (take (len_in (take UNDO_PART_SIZE bytes)) (drop UNDO_PART_SIZE bytes)) ∷ parts_in n (drop (len_in (take UNDO_PART_SIZE bytes)) (drop UNDO_PART_SIZE bytes))
 
 unfoldable pub page_in : List ℕ → UndoPage
-page_in bytes = record { dba = number_in w32 bytes 4; lsn = number_in w64 bytes 8; sequence = number_in w64 bytes 16; parts = parts_in (number_in w16 bytes 26) (drop 64 bytes) }
+page_in bytes = record { dba = number_in w32 bytes 4; lsn = number_in w64 bytes 8; sequence = number_in w64 bytes 16; parts = parts_in (number_in w16 bytes 26) (drop UNDO_PART_SIZE bytes) }
 
 abbrev pub PlaceFits : Option UndoPlace → Type 0
 PlaceFits None = Unit {0}
@@ -87,16 +82,17 @@ pub record IsUndoPage (u : UndoPage) : Type 0 where
   pub lsn : u.lsn < 2 ^ 64
   pub sequence : u.sequence < 2 ^ 64
   pub parts : AllByRecursion IsPart u.parts
-  pub used : used_by u.parts ≤ 4032
+  pub used : used_by u.parts ≤ BLOCK_ROOM
 
--- What decoding a page answered: what it spells, or the first byte that is not of the spelling of what its fields read as.
+-- The result of decoding a page: the block that it spells, or the first byte that differs from the spelling of what its
+-- fields read as.
 abbrev pub Decodes : List ℕ → Result UndoPage UndoFault → Type 0
 Decodes bytes (Ok u) = (u ≡ page_in bytes) × (bytes ≡ spelling u)
-Decodes bytes (Err (BadPage at)) = (at ≡ first_wrong bytes (spelling (page_in bytes))) × (at < 4096)
+Decodes bytes (Err (BadPage at)) = (at ≡ first_wrong bytes (spelling (page_in bytes))) × (at < BLOCK_SIZE)
 Decodes bytes (Err NoMemory) = Unit {0}
 Decodes bytes (Err (NoRoom n f)) = ⊥
 
--- what decoding the spelling of u answered: u, unless memory ran out
+-- the result of decoding the spelling of u: u, unless memory was refused
 abbrev pub IsReadAs : UndoPage → Result UndoPage UndoFault → Type 0
 IsReadAs u (Ok v) = v ≡ u
 IsReadAs u (Err (BadPage at)) = ⊥

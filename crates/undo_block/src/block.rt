@@ -1,5 +1,5 @@
 // An undo block.
-ghost use Rattle.std.specs.Prelude.{◌≡◌, ◌≤◌, ◌<◌, [], length, slice_get, Some, IfOk, IfSome};
+ghost use Rattle.seg_words.specs.Std.{◌≡◌, ◌≤◌, ◌<◌, [], length, slice_get, Some, IfOk, IfSome, option_map};
 ghost use Rattle.undo_block.specs.Parts.{used_by, holder_of, is_held, lesser, with_part};
 ghost use Rattle.undo_block.specs.Held.{AppendsAt};
 ghost use Rattle.undo_block.specs.UndoPage.{UndoPage, Decodes, IsReadAs, IsUndoPage, spelling};
@@ -8,7 +8,7 @@ use crate::fault::UndoFault;
 use crate::part::Part;
 use crate::parts::Parts;
 use page_bytes::PageForm;
-use seg_base::{Dba, Ended, Lsn, TxnId};
+use seg_base::{BLOCK_ROOM, BLOCK_SIZE, Dba, Ended, Lsn, MOST_UNDO_PARTS, TxnId};
 use std::alloc::Global;
 use std::marker::Model;
 
@@ -115,7 +115,7 @@ impl UndoBlock {
     /// The bytes that the parts use, of 4,032.
     pub fn used(&self) -> u16
         ensures used { result ≡ used_by self.now.parts }
-        ensures range { result ≤ 4032 }
+        ensures range { result ≤ BLOCK_ROOM }
     {
         self.parts.used()
     }
@@ -123,21 +123,21 @@ impl UndoBlock {
     /// How many parts there are, at most 63.
     pub fn count(&self) -> u8
         ensures count { result ≡ length self.now.parts }
-        ensures range { result ≤ 63 }
+        ensures range { result ≤ MOST_UNDO_PARTS }
     {
         self.parts.count()
     }
 
     /// The part at a place, None exactly from `count()` on.
     pub fn nth(&self, place: u8) -> Option<&Part>
-        ensures { IfSome result (λ part. Some part.now ≡ slice_get self.now.parts place) }
+        ensures { option_map (λ part. part.now) result ≡ slice_get self.now.parts place }
     {
         self.parts.as_slice().get(usize::from(place))
     }
 
     pub(crate) fn all_parts(&self) -> &[Part]
         ensures same { result.now ≡ self.now.parts }
-        ensures used { used_by self.now.parts ≤ 4032 }
+        ensures used { used_by self.now.parts ≤ BLOCK_ROOM }
     {
         self.parts.as_slice()
     }
@@ -161,7 +161,7 @@ impl UndoBlock {
     }
 
     /// The block that a page spells, or the first byte that is not of the spelling of what its fields read as.
-    pub fn decode(alloc: Global, bytes: &[u8; 4096]) -> Result<UndoBlock, UndoFault>
+    pub fn decode(alloc: Global, bytes: &[u8; BLOCK_SIZE]) -> Result<UndoBlock, UndoFault>
         ensures exact { Decodes bytes.now result }
         // What is spelled is read.
         ensures only { (u : UndoPage) → IsUndoPage u → bytes.now ≡ spelling u → IsReadAs u result }
@@ -171,7 +171,7 @@ impl UndoBlock {
     }
 
     /// Writes the one page that spells the block.
-    pub fn encode(&self, out: &mut [u8; 4096])
+    pub fn encode(&self, out: &mut [u8; BLOCK_SIZE])
         ensures { out.new ≡ spelling self.now }
     {
         self.write(out);

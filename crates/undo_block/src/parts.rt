@@ -1,16 +1,13 @@
 // A list of parts, and the bytes that they use.
-ghost use Rattle.std.specs.Prelude.{◌≡◌, ◌≤◌, ◌+◌, ◌++◌, ◌∷◌, [], min, length, OnErr, OnOk, IfOk};
+ghost use Rattle.seg_words.specs.Std.{◌≡◌, ◌≤◌, ◌+◌, ◌++◌, ◌∷◌, [], min, length, OnErr, OnOk, IfOk};
 ghost use Rattle.undo_block.specs.Parts.{part_size, used_by};
 ghost use Rattle.undo_block.specs.Held.{Appends};
 
 use crate::fault::UndoFault;
 use crate::part::Part;
-use seg_base::NoMemory;
+use seg_base::{BLOCK_ROOM, MOST_UNDO_PARTS, NoMemory, UNDO_PART_SIZE};
 use std::alloc::Global;
 use std::marker::Model;
-
-/// The bytes of a block that serve parts.
-pub const ROOM: u16 = 4032;
 
 /// Parts that fit in a block.
 #[derive(Debug, Drop)]
@@ -20,7 +17,7 @@ pub struct Parts {
 }
 
 impl Model for Parts {
-    ghost use Rattle.std.specs.Prelude.{List};
+    ghost use Rattle.seg_words.specs.Std.{List};
     ghost use Rattle.undo_block.specs.declared.part.Part.{Part};
 
     ghost Value = { List Part };
@@ -44,7 +41,7 @@ impl Parts {
 
     pub fn used(&self) -> u16
         ensures used { result ≡ used_by self.now }
-        ensures range { result ≤ 4032 }
+        ensures range { result ≤ BLOCK_ROOM }
     {
         self.used
     }
@@ -52,14 +49,14 @@ impl Parts {
     #[tactic(auto, using(crate::proofs::Sizes::few))]
     pub fn count(&self) -> u8
         ensures count { result ≡ length self.now }
-        ensures range { result ≤ 63 }
+        ensures range { result ≤ MOST_UNDO_PARTS }
     {
         self.parts.len() as u8
     }
 
     pub fn as_slice(&self) -> &[Part]
         ensures same { result.now ≡ self.now }
-        ensures used { used_by self.now ≤ 4032 }
+        ensures used { used_by self.now ≤ BLOCK_ROOM }
     {
         let _used = self.used;
         self.parts.as_slice()
@@ -68,7 +65,7 @@ impl Parts {
     /// Adds a part that fits. Without memory nothing is added.
     #[tactic(auto, using(crate::proofs::Sizes::used_push))]
     pub fn push(&mut self, part: Part) -> Result<(), NoMemory>
-        requires { used_by self.old + part_size part ≤ 4032 }
+        requires { used_by self.old + part_size part ≤ BLOCK_ROOM }
         ensures ok { OnOk result (self.new ≡ self.old ++ part ∷ []) }
         ensures err { OnErr result (self.new ≡ self.old) }
     {
@@ -84,7 +81,7 @@ impl Parts {
         ensures { Appends self.old self.new parts.now result }
     {
         let need = need_of(parts);
-        let free = ROOM - self.used;
+        let free = BLOCK_ROOM as u16 - self.used;
         if need > free {
             return Err(UndoFault::NoRoom { need, free });
         }
@@ -103,7 +100,7 @@ fn need_of(parts: &[Part]) -> u16
     let mut need: u32 = 0;
     for part in parts {
         let len = part.old.bytes.len().min(65535) as u32;
-        need = (need + 64 + len).min(65535);
+        need = (need + UNDO_PART_SIZE as u32 + len).min(65535);
     }
     need as u16
 }
@@ -120,8 +117,8 @@ fn copies(alloc: Global, parts: &[Part]) -> Result<Vec<Part>, NoMemory>
 
 /// The bytes of a part, of those that fit in a block.
 fn size_of(part: &Part) -> u16
-    requires { part_size part.now ≤ 4032 }
+    requires { part_size part.now ≤ BLOCK_ROOM }
     ensures { result ≡ part_size part.now }
 {
-    64 + part.old.bytes.len() as u16
+    UNDO_PART_SIZE as u16 + part.old.bytes.len() as u16
 }

@@ -1,6 +1,5 @@
 // Records that change tables and their space.
-ghost use Rattle.std.specs.Prelude.{◌≡◌, IfOk, length};
-ghost use Rattle.std.specs.Int.{w32};
+ghost use Rattle.seg_words.specs.Std.{◌≡◌, IfOk, length, w32};
 ghost use Rattle.redo_record.specs.Forms.{Reads, ReadsItems, byte, many, number, tested};
 ghost use Rattle.redo_record.specs.Reading.{is_pctfree, name_at, table_at, movement_at, extend_at, format_block_at, class_code_at, class_at, advance_at, three_blocks_at, three_codes_at, extents_at, lower_at};
 
@@ -10,14 +9,14 @@ use crate::space::{
     AdvanceRecord, ClassRecord, ExtendRecord, Extents, FormatBlockRecord, LowerRecord,
     MovementRecord, TableRecord,
 };
-use seg_base::{Class, Dba, Name, class_from};
+use seg_base::{Class, Dba, MOST_PCTFREE, Name, class_from};
 use std::alloc::Global;
 
 fn pctfree(input: &mut Input) -> Result<u8, ReadFault>
     ensures { Reads result input.new (tested is_pctfree byte input.old) }
 {
     let pctfree = input.byte()?;
-    if pctfree > 50 {
+    if pctfree > MOST_PCTFREE {
         return Err(ReadFault::NotARecord);
     }
     Ok(pctfree)

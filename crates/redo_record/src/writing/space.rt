@@ -1,9 +1,7 @@
 // Records that change tables and their space.
-ghost use Rattle.std.specs.Prelude.{◌≡◌, length, ◌≤◌};
+ghost use Rattle.seg_words.specs.Std.{◌≡◌, length, ◌≤◌, w32, flat_map};
 ghost use Rattle.redo_record.specs.Adding.{Adds};
 ghost use Rattle.redo_record.specs.Spelling.{big_endian, flag, block_or_zero, table, movement, extend, in_bitmaps, format_block, class, advance, three_blocks, three_codes, extents as extents_bytes, lowered, lower};
-ghost use Rattle.std.specs.Int.{w32};
-ghost use Rattle.std.specs.List.{flat_map};
 
 use crate::output;
 use crate::space::{

@@ -1,5 +1,5 @@
-use Rattle.std.proofs.Common.{◌≡◌, take}
-use Rattle.bitmap_block.specs.Codes.{best_of}
+use Rattle.seg_words.proofs.Std.{◌≡◌, take}
+use Rattle.bitmap_block.specs.Types.{best_of}
 use Rattle.bitmap_block.proofs.best.best_of.Given as goal
 
 abbrev pub invariant-loop-code : goal.invariant-loop-code

@@ -1,4 +1,4 @@
-use Rattle.bitmap_block.specs.Pages.{ExtentMap}
+use Rattle.bitmap_block.specs.Types.{ExtentMap}
 use Rattle.bitmap_block.proofs.Forms.{map_written}
 use Rattle.bitmap_block.proofs.first_level.write_map.Goals as goal
 

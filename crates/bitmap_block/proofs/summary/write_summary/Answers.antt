@@ -1,4 +1,4 @@
-use Rattle.bitmap_block.specs.Pages.{Summary}
+use Rattle.bitmap_block.specs.Types.{Summary}
 use Rattle.bitmap_block.proofs.Forms.{summary_written}
 use Rattle.bitmap_block.proofs.summary.write_summary.Goals as goal
 

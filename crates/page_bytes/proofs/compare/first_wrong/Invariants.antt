@@ -1,5 +1,4 @@
-use Rattle.std.proofs.Common.{◌≡◌, ◌≤◌, ◌+◌, ◌-◌, eqb, length, drop}
-use Rattle.std.specs.List.{common_prefix_len}
+use Rattle.seg_words.proofs.Std.{◌≡◌, ◌≤◌, ◌+◌, ◌-◌, eqb, length, drop, common_prefix_len}
 use Rattle.page_bytes.proofs.compare.first_wrong.Given as goal
 
 abbrev pub invariant-loop-at : goal.invariant-loop-at

@@ -1,4 +1,4 @@
-use Rattle.page_bytes.specs.Pieces.{pieces_in}
+use Rattle.page_bytes.specs.Types.{pieces_in}
 use Rattle.page_bytes.proofs.PiecesIn.{Reads}
 use Rattle.page_bytes.proofs.piece.read_all.Given as goal
 

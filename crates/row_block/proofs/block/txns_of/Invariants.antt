@@ -1,5 +1,5 @@
-use Rattle.std.proofs.Common.{◌≡◌, take}
-use Rattle.row_block.specs.Answers.{txns_of}
+use Rattle.seg_words.proofs.Std.{◌≡◌, take}
+use Rattle.row_block.specs.Types.{txns_of}
 use Rattle.row_block.proofs.block.txns_of.Given as goal
 
 abbrev pub invariant-loop-entry : goal.invariant-loop-entry

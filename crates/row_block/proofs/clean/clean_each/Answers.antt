@@ -1,5 +1,5 @@
 use Rattle.row_block.proofs.Cleaned.{over_more}
-use Rattle.seg_base.specs.Cleaning.{clean_slot}
+use Rattle.seg_words.specs.Types.{clean_slot}
 use Rattle.row_block.proofs.clean.clean_each.Goals as goal
 
 pub loop-slot-preserved : goal.loop-slot-preserved

@@ -1,5 +1,5 @@
-use Rattle.std.proofs.Common.{◌≡◌, ◌++◌, map, take, drop}
-use Rattle.seg_base.specs.Cleaning.{clean_slot}
+use Rattle.seg_words.proofs.Std.{◌≡◌, ◌++◌, map, take, drop}
+use Rattle.seg_words.specs.Types.{clean_slot}
 use Rattle.row_block.proofs.clean.clean_each.Given as goal
 
 abbrev pub invariant-loop-slot : goal.invariant-loop-slot

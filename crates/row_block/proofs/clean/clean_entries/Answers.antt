@@ -1,5 +1,5 @@
 use Rattle.row_block.proofs.Cleaned.{over_more}
-use Rattle.seg_base.specs.Cleaning.{clean_entry}
+use Rattle.seg_words.specs.Types.{clean_entry}
 use Rattle.row_block.proofs.clean.clean_entries.Goals as goal
 
 pub loop-entry-preserved : goal.loop-entry-preserved

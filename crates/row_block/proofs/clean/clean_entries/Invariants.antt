@@ -1,5 +1,5 @@
-use Rattle.std.proofs.Common.{◌≡◌, ◌++◌, map, take, drop}
-use Rattle.seg_base.specs.Cleaning.{clean_entry}
+use Rattle.seg_words.proofs.Std.{◌≡◌, ◌++◌, map, take, drop}
+use Rattle.seg_words.specs.Types.{clean_entry}
 use Rattle.row_block.proofs.clean.clean_entries.Given as goal
 
 abbrev pub invariant-loop-entry : goal.invariant-loop-entry

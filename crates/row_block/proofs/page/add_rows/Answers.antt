@@ -1,6 +1,6 @@
-use Rattle.std.proofs.Common.{arith, ap, List, ℕ, length}
+use Rattle.seg_words.proofs.Std.{arith, ap, List, ℕ, length}
 use Rattle.page_bytes.proofs.Fronts.{room_next}
-use Rattle.row_block.specs.Spelling.{row_bytes}
+use Rattle.row_block.specs.Types.{row_bytes}
 use Rattle.row_block.proofs.page.add_rows.Goals as goal
 
 pub add-next-requires : goal.add-next-requires

@@ -1,4 +1,4 @@
-use Rattle.row_block.specs.Spelling.{row_bytes}
+use Rattle.row_block.specs.Types.{row_bytes}
 use Rattle.page_bytes.proofs.Fronts.{Added}
 use Rattle.row_block.proofs.page.add_rows.Given as goal
 

@@ -1,4 +1,4 @@
-use Rattle.seg_base.specs.Images.{slot_bytes}
+use Rattle.seg_words.specs.Types.{slot_bytes}
 use Rattle.page_bytes.proofs.Fronts.{Added}
 use Rattle.row_block.proofs.page.add_slots.Given as goal
 

@@ -1,4 +1,4 @@
-use Rattle.row_block.specs.Spelling.{slots_in}
+use Rattle.row_block.specs.Types.{slots_in}
 use Rattle.row_block.proofs.Reading.{one_read, all_read}
 use Rattle.row_block.proofs.page.read_slots.Goals as goal
 

@@ -1,4 +1,4 @@
-use Rattle.row_block.specs.Spelling.{slots_in}
+use Rattle.row_block.specs.Types.{slots_in}
 use Rattle.row_block.proofs.Reading.{Reads}
 use Rattle.row_block.proofs.page.read_slots.Given as goal
 

@@ -1,6 +1,5 @@
-use Rattle.std.proofs.Common.{◌≡◌, ◌≤◌, ◌*◌, take}
-use Rattle.std.specs.List.{sum_by}
-use Rattle.seg_base.specs.Room.{slot_size}
+use Rattle.seg_words.proofs.Std.{◌≡◌, ◌≤◌, ◌*◌, take, sum_by}
+use Rattle.seg_words.specs.Types.{slot_size}
 use Rattle.row_block.proofs.sizes.slots_size.Given as goal
 
 abbrev pub invariant-loop-slot : goal.invariant-loop-slot

@@ -1,6 +1,6 @@
-use Rattle.std.proofs.Common.{◌≡◌, ℕ, List, [], length, ap, arith}
+use Rattle.seg_words.proofs.Std.{◌≡◌, ℕ, List, [], length, ap, arith}
 use Rattle.page_bytes.proofs.PiecesIn.{length-spelled}
-use Rattle.segment_blocks.specs.Catalogues.{spelled_entry}
+use Rattle.segment_blocks.specs.Types.{spelled_entry}
 use Rattle.segment_blocks.specs.CatalogueAgain.{length-spelled_entry}
 use Rattle.segment_blocks.proofs.Forms.{tables_written}
 use Rattle.segment_blocks.proofs.catalogue.write_page.Goals as goal

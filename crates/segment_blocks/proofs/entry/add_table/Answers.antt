@@ -1,5 +1,5 @@
-use Rattle.std.proofs.Common.{◌++◌, ◌∷◌, [], length, List, ℕ, subst}
-use Rattle.page_bytes.specs.Pages.{IsFront}
+use Rattle.seg_words.proofs.Std.{◌++◌, ◌∷◌, [], length, List, ℕ, subst}
+use Rattle.page_bytes.specs.Types.{IsFront}
 use Rattle.segment_blocks.proofs.Forms.{table_added}
 use Rattle.segment_blocks.proofs.entry.add_table.Goals as goal
 

@@ -1,8 +1,7 @@
-use Rattle.std.proofs.Common.{◌≡◌, ℕ, List, [], ◌++◌, length, refl, sym, ap, ◌∙◌, arith}
-use Rattle.std.specs.List.{flat_map}
-use Rattle.page_bytes.specs.Pages.{head_bytes, page_of}
+use Rattle.seg_words.proofs.Std.{◌≡◌, ℕ, List, [], ◌++◌, length, refl, sym, ap, ◌∙◌, arith, flat_map}
+use Rattle.page_bytes.specs.Types.{head_bytes, page_of}
 use Rattle.page_bytes.proofs.PiecesIn.{length-spelled}
-use Rattle.segment_blocks.specs.Headers.{extent_bytes}
+use Rattle.segment_blocks.specs.Types.{extent_bytes}
 use Rattle.segment_blocks.proofs.Forms.{header_written}
 use Rattle.segment_blocks.proofs.header.write_page.Goals as goal
 

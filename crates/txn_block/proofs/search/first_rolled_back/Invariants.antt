@@ -1,5 +1,4 @@
-use Rattle.txn_block.specs.Entries.{is_rolled_back}
-use Rattle.txn_block.specs.Tables.{NoneBelow}
+use Rattle.txn_block.specs.Types.{is_rolled_back, NoneBelow}
 use Rattle.txn_block.proofs.search.first_rolled_back.Given as goal
 
 abbrev pub invariant-loop-place : goal.invariant-loop-place

@@ -1,5 +1,4 @@
-use Rattle.txn_block.specs.Entries.{is_unused}
-use Rattle.txn_block.specs.Tables.{NoneBelow}
+use Rattle.txn_block.specs.Types.{is_unused, NoneBelow}
 use Rattle.txn_block.proofs.search.first_unused.Given as goal
 
 abbrev pub invariant-loop-place : goal.invariant-loop-place

@@ -1,5 +1,5 @@
-use Rattle.std.proofs.Common.{◌≡◌, ◌≤◌, length, drop}
-use Rattle.undo_block.specs.Parts.{holder_of}
+use Rattle.seg_words.proofs.Std.{◌≡◌, ◌≤◌, length, drop}
+use Rattle.undo_block.specs.Types.{holder_of}
 use Rattle.undo_block.proofs.block.holder_of.Given as goal
 
 abbrev pub invariant-loop-at : goal.invariant-loop-at

@@ -1,8 +1,7 @@
-use Rattle.std.proofs.Common.{◌≡◌, ◌+◌, ◌++◌, List, ℕ, length, subst, arith}
-use Rattle.std.specs.List.{flat_map}
-use Rattle.page_bytes.specs.Pages.{IsFront}
+use Rattle.seg_words.proofs.Std.{◌≡◌, ◌+◌, ◌++◌, List, ℕ, length, subst, arith, flat_map}
+use Rattle.page_bytes.specs.Types.{IsFront}
 use Rattle.page_bytes.proofs.Fronts.{room_next, add_next, all_added}
-use Rattle.undo_block.specs.UndoPage.{part_bytes}
+use Rattle.undo_block.specs.Types.{part_bytes}
 use Rattle.undo_block.specs.Again.{length-part_bytes, length-parts}
 use Rattle.undo_block.proofs.page.add_parts.Goals as goal
 

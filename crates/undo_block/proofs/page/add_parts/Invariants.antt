@@ -1,4 +1,4 @@
-use Rattle.undo_block.specs.UndoPage.{part_bytes}
+use Rattle.undo_block.specs.Types.{part_bytes}
 use Rattle.page_bytes.proofs.Fronts.{Added}
 use Rattle.undo_block.proofs.page.add_parts.Given as goal
 

@@ -1,4 +1,4 @@
-use Rattle.undo_block.specs.UndoPage.{parts_in}
+use Rattle.undo_block.specs.Types.{parts_in}
 use Rattle.undo_block.proofs.Reading.{Reads}
 use Rattle.undo_block.proofs.page.read_parts.Given as goal
 

@@ -1,5 +1,5 @@
-use Rattle.std.proofs.Common.{◌≡◌, min, take}
-use Rattle.undo_block.specs.Parts.{used_by}
+use Rattle.seg_words.proofs.Std.{◌≡◌, min, take}
+use Rattle.undo_block.specs.Types.{used_by}
 use Rattle.undo_block.proofs.parts.need_of.Given as goal
 
 abbrev pub invariant-loop-part : goal.invariant-loop-part

@@ -1,4 +1,4 @@
-use Rattle.redo_record.specs.Reading.{back_part_at}
+use Rattle.redo_record.specs.Types.{back_part_at}
 use Rattle.redo_record.proofs.Loop.{Going}
 use Rattle.redo_record.proofs.reading.row.back_parts_of.Given as goal
 

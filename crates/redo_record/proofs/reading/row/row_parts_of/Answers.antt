@@ -1,4 +1,4 @@
-use Rattle.redo_record.specs.Reading.{row_part_at}
+use Rattle.redo_record.specs.Types.{row_part_at}
 use Rattle.redo_record.proofs.Loop.{goes_on}
 use Rattle.redo_record.proofs.reading.row.row_parts_of.Goals as goal
 

@@ -1,4 +1,4 @@
-use Rattle.redo_record.specs.Reading.{ended_transaction_at}
+use Rattle.redo_record.specs.Types.{ended_transaction_at}
 use Rattle.redo_record.proofs.Loop.{goes_on}
 use Rattle.redo_record.proofs.reading.transaction.ended_transactions_of.Goals as goal
 

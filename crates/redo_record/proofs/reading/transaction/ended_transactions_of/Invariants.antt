@@ -1,4 +1,4 @@
-use Rattle.redo_record.specs.Reading.{ended_transaction_at}
+use Rattle.redo_record.specs.Types.{ended_transaction_at}
 use Rattle.redo_record.proofs.Loop.{Going}
 use Rattle.redo_record.proofs.reading.transaction.ended_transactions_of.Given as goal
 

@@ -1,6 +1,5 @@
-use Rattle.std.proofs.Common.{◌≡◌, ◌++◌, take}
-use Rattle.std.specs.List.{flat_map}
-use Rattle.redo_record.specs.Spelling.{back_part}
+use Rattle.seg_words.proofs.Std.{◌≡◌, ◌++◌, take, flat_map}
+use Rattle.redo_record.specs.Types.{back_part}
 use Rattle.redo_record.proofs.writing.row.each_back_part.Given as goal
 
 abbrev pub invariant-loop-part : goal.invariant-loop-part

@@ -1,7 +1,5 @@
-use Rattle.std.proofs.Common.{◌≡◌, ◌++◌, take}
-use Rattle.std.specs.List.{flat_map}
-use Rattle.std.specs.Int.{w32}
-use Rattle.redo_record.specs.Spelling.{big_endian}
+use Rattle.seg_words.proofs.Std.{◌≡◌, ◌++◌, take, flat_map, w32}
+use Rattle.redo_record.specs.Types.{big_endian}
 use Rattle.redo_record.proofs.writing.space.numbers.Given as goal
 
 abbrev pub invariant-loop-number : goal.invariant-loop-number

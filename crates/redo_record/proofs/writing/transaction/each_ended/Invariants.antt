@@ -1,6 +1,5 @@
-use Rattle.std.proofs.Common.{◌≡◌, ◌++◌, take}
-use Rattle.std.specs.List.{flat_map}
-use Rattle.redo_record.specs.Spelling.{ended_transaction}
+use Rattle.seg_words.proofs.Std.{◌≡◌, ◌++◌, take, flat_map}
+use Rattle.redo_record.specs.Types.{ended_transaction}
 use Rattle.redo_record.proofs.writing.transaction.each_ended.Given as goal
 
 abbrev pub invariant-loop-txn : goal.invariant-loop-txn

@@ -1,6 +1,6 @@
-use Rattle.std.proofs.Common.{arith}
+use Rattle.seg_words.proofs.Std.{arith}
 use Rattle.row_block.proofs.Held.{can_put_test}
 use Rattle.row_block.proofs.block.RowBlock.can_put.Goals as goal
 
 pub returns : goal.returns
-returns c = can_put_test c.args.self.now.block c.args.n c.args.image.now c.used.result c.counted.result c.len-len.result (omega arith) c.if-n-ge100.false c.if-len-image.false c.len-len.ensures c.used.ensures.value c.counted.ensures
+returns c = can_put_test c.args.self.now.block c.args.n c.args.image.now c.used.result c.counted.result c.len-len.result (omega arith) c.if-n-ge-MOST_SLOTS.false c.if-len-image.false c.len-len.ensures c.used.ensures.value c.counted.ensures

@@ -1,4 +1,4 @@
-use Rattle.segment_blocks.specs.Spaces.{AreUsed}
+use Rattle.segment_blocks.specs.Types.{AreUsed}
 use Rattle.segment_blocks.proofs.space.SpaceBitmap.least_free.Given as goal
 
 abbrev pub invariant-loop-extent : goal.invariant-loop-extent

@@ -1,5 +1,5 @@
-use Rattle.std.proofs.Common.{refl}
-use Rattle.txn_block.specs.Pages.{spelling}
+use Rattle.seg_words.proofs.Std.{refl}
+use Rattle.txn_block.specs.Types.{spelling}
 use Rattle.txn_block.proofs.block.TxnBlockPageForm.write.Goals as goal
 
 pub returns : goal.returns

@@ -1,6 +1,5 @@
-use Rattle.std.proofs.Common.{◌≡◌, ℕ, List, ap, ◌∙◌, sym}
-use Rattle.undo_block.specs.declared.part.Part.{Part}
-use Rattle.undo_block.specs.UndoPage.{UndoPage, fields_of, spelling}
+use Rattle.seg_words.proofs.Std.{◌≡◌, ℕ, List, ap, ◌∙◌, sym}
+use Rattle.undo_block.specs.Types.{Part, UndoPage, fields_of, spelling}
 use Rattle.undo_block.proofs.page.UndoBlockPageForm.write.Goals as goal
 
 pub returns : goal.returns

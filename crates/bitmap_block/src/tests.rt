@@ -1,13 +1,13 @@
 use crate::{L1, L2, L3};
 use page_bytes::{PageFault, PageForm, decode};
-use seg_base::{Dba, Lsn};
+use seg_base::{BLOCK_SIZE, Dba, Lsn};
 use std::test::Fail;
 
 // Each level is written and read back; a code of 6 and a byte behind the codes are no spelling.
 #[test]
 fn pages_are_read_back(rt: HostRuntime) -> Result<(), Fail> {
     let alloc = rt.alloc();
-    let mut page = [0; 4096];
+    let mut page = [0; BLOCK_SIZE];
     let mut first = L1::new(Dba(39), Lsn(7));
     first.set(4, 1);
     first.set(5, 3);
@@ -35,7 +35,7 @@ fn pages_are_read_back(rt: HostRuntime) -> Result<(), Fail> {
 #[test]
 fn upper_levels_keep_the_best(rt: HostRuntime) -> Result<(), Fail> {
     let alloc = rt.alloc();
-    let mut page = [0; 4096];
+    let mut page = [0; BLOCK_SIZE];
     let mut second = L2::new(Dba(40));
     second.set(0, 1);
     assert_eq!(rt; second.best(), 0);

@@ -1,7 +1,7 @@
 mod bytes;
 
 use super::*;
-use seg_base::{Dba, Kind, Name, Obj, RowNo, Scn, Slot, Text, TxnId, UndoAddr, Writer};
+use seg_base::{Dba, Kind, Obj, RowNo, Scn, Slot, Text, TxnId, UndoAddr, Writer};
 use std::alloc::Global;
 use std::process::Abort;
 use std::test::Fail;
@@ -126,11 +126,14 @@ fn part(alloc: Global) -> Result<RowPart, Fail> {
     })
 }
 
-// Records made of their parts, and lists that grow.
-#[test]
-fn records_are_made(rt: HostRuntime) -> Result<(), Fail> {
-    let alloc = rt.alloc();
-    let insert = Record::Insert(RowBody {
+/// Whether a record is spelled in these bytes.
+fn is_spelled(alloc: Global, record: &Record, bytes: &[u8]) -> bool {
+    let mut out = Vec::new(alloc);
+    encode(record, &mut out).is_ok() && out.as_slice() == bytes
+}
+
+fn insert(alloc: Global) -> Result<Record, Fail> {
+    Ok(Record::Insert(RowBody {
         txn: TxnId(1),
         entry: 0,
         obj: Obj(1),
@@ -142,35 +145,30 @@ fn records_are_made(rt: HostRuntime) -> Result<(), Fail> {
         },
         previous: None,
         parts: Parts::one(alloc, part(alloc)?)?,
-    });
-    let mut out = Vec::new(alloc);
-    encode(&insert, &mut out)?;
-    assert_eq!(rt; out.as_slice(), bytes::INSERT.as_slice());
-    let mut two = Parts::one(alloc, part(alloc)?)?;
-    two.push(part(alloc)?)?;
-    assert_eq!(rt; two.as_slice().len(), 2);
+    }))
+}
+
+fn clean(alloc: Global) -> Result<Record, Fail> {
     let mut ended = EndedTransactions::new(alloc);
     ended.push(TxnId(1), Scn(1))?;
     ended.push(TxnId(4), Scn(0))?;
-    let clean = Record::Clean(CleanRecord {
+    Ok(Record::Clean(CleanRecord {
         dba: Dba(43),
         ended,
-    });
-    out.clear();
-    encode(&clean, &mut out)?;
-    assert_eq!(rt; out.as_slice(), bytes::CLEAN.as_slice());
+    }))
+}
+
+// Records made of their parts, and a list that grows.
+#[test]
+fn records_are_made(rt: HostRuntime) -> Result<(), Fail> {
+    let alloc = rt.alloc();
+    assert!(rt; is_spelled(alloc, &insert(alloc)?, &bytes::INSERT));
+    assert!(rt; is_spelled(alloc, &clean(alloc)?, &bytes::CLEAN));
+    let mut two = Parts::one(alloc, part(alloc)?)?;
+    two.push(part(alloc)?)?;
+    assert_eq!(rt; two.as_slice().len(), 2);
     let mut released = Extents::new(alloc);
     released.push(1)?;
     assert_eq!(rt; released.as_slice(), [1].as_slice());
-    let name = Name::copy(alloc, b"t")?.ok_or("a name")?;
-    let table = Record::Table(TableRecord {
-        obj: Obj(1),
-        header: Dba(42),
-        pctfree: 10,
-        name,
-    });
-    out.clear();
-    encode(&table, &mut out)?;
-    assert_eq!(rt; out.as_slice(), bytes::TABLE.as_slice());
     Ok(())
 }

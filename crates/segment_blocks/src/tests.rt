@@ -1,11 +1,11 @@
 use crate::{Catalogue, CheckpointPage, SegmentHeader, SpaceBitmap};
 use page_bytes::{PageFault, PageForm, decode};
-use seg_base::{Dba, Lsn, Name, Obj, Scn};
+use seg_base::{BLOCK_SIZE, Dba, Lsn, Name, Obj, Scn};
 use std::test::Fail;
 
 /// A page that begins with its kind and its block's number.
-fn page(kind: u8, dba: u8) -> [u8; 4096] {
-    let mut page = [0; 4096];
+fn page(kind: u8, dba: u8) -> [u8; BLOCK_SIZE] {
+    let mut page = [0; BLOCK_SIZE];
     page[0] = kind;
     page[7] = dba;
     page
@@ -37,7 +37,7 @@ fn catalogue_names_its_tables(rt: HostRuntime) -> Result<(), Fail> {
         if let Some(name) = Name::copy(alloc, b"u")? {
             assert_eq!(rt; catalogue.table(&name), None);
         }
-        let mut again = [1; 4096];
+        let mut again = [1; BLOCK_SIZE];
         catalogue.write(&mut again);
         assert_eq!(rt; again.as_slice(), bytes.as_slice());
     }
@@ -63,7 +63,7 @@ fn space_finds_the_least_free_extent(rt: HostRuntime) -> Result<(), Fail> {
         assert!(rt; space.is_free(9));
         assert_eq!(rt; space.least_free(2043), Some(9));
         assert_eq!(rt; space.least_free(9), None);
-        let mut again = [1; 4096];
+        let mut again = [1; BLOCK_SIZE];
         space.write(&mut again);
         assert_eq!(rt; again.as_slice(), bytes.as_slice());
     }
@@ -94,7 +94,7 @@ fn header_and_checkpoint_are_read_back(rt: HostRuntime) -> Result<(), Fail> {
         assert_eq!(rt; header.extents(), 1);
         assert_eq!(rt; header.extent_at(0), Some(0));
         assert_eq!(rt; header.extent_at(1), None);
-        let mut again = [1; 4096];
+        let mut again = [1; BLOCK_SIZE];
         header.write(&mut again);
         assert_eq!(rt; again.as_slice(), bytes.as_slice());
     }

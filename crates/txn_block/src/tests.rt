@@ -1,10 +1,10 @@
 use super::*;
 use page_bytes::{PageFault, PageForm, decode};
-use seg_base::{Dba, Lsn, RowNo, Scn, TxnId, UndoAddr};
+use seg_base::{BLOCK_SIZE, Dba, Lsn, RowNo, Scn, TxnId, UndoAddr};
 use std::test::Fail;
 
 /// Puts an entry's bytes, with the commit number in its last byte, into a page.
-fn put_entry(page: &mut [u8; 4096], i: u8, txn: u8, state: u8, number: u8) {
+fn put_entry(page: &mut [u8; BLOCK_SIZE], i: u8, txn: u8, state: u8, number: u8) {
     if i < 96 {
         let at = 48 + 32 * usize::from(i);
         page[at + 7] = txn;
@@ -14,7 +14,7 @@ fn put_entry(page: &mut [u8; 4096], i: u8, txn: u8, state: u8, number: u8) {
 }
 
 /// The numbers before the entries: control number 2, last transaction 200, last row 9, undo block 37.
-fn put_numbers(page: &mut [u8; 4096]) {
+fn put_numbers(page: &mut [u8; BLOCK_SIZE]) {
     page[0] = 2;
     page[7] = 1;
     page[15] = 8;
@@ -28,7 +28,7 @@ fn put_numbers(page: &mut [u8; 4096]) {
 #[test]
 fn table_is_read_and_written_back(rt: HostRuntime) -> Result<(), Fail> {
     let alloc = rt.alloc();
-    let mut page = [0; 4096];
+    let mut page = [0; BLOCK_SIZE];
     put_numbers(&mut page);
     put_entry(&mut page, 0, 1, 2, 5);
     put_entry(&mut page, 1, 2, 3, 0);
@@ -58,7 +58,7 @@ fn table_is_read_and_written_back(rt: HostRuntime) -> Result<(), Fail> {
     assert_eq!(rt; table.state_of(TxnId(1)), State::Committed(Scn(5)));
     assert_eq!(rt; table.state_of(TxnId(3)), State::Active);
     assert_eq!(rt; table.state_of(TxnId(4)), State::Forgotten);
-    let mut again = [1; 4096];
+    let mut again = [1; BLOCK_SIZE];
     table.write(&mut again);
     assert!(rt; again == page);
     Ok(())
@@ -68,7 +68,7 @@ fn table_is_read_and_written_back(rt: HostRuntime) -> Result<(), Fail> {
 #[test]
 fn entries_are_used_again(rt: HostRuntime) -> Result<(), Fail> {
     let alloc = rt.alloc();
-    let mut page = [0; 4096];
+    let mut page = [0; BLOCK_SIZE];
     put_numbers(&mut page);
     for i in 0..96u8 {
         put_entry(&mut page, i, i + 1, 1, 0);
@@ -89,11 +89,11 @@ fn entries_are_used_again(rt: HostRuntime) -> Result<(), Fail> {
 #[test]
 fn what_is_no_table_is_refused(rt: HostRuntime) -> Result<(), Fail> {
     let alloc = rt.alloc();
-    let mut page = [0; 4096];
+    let mut page = [0; BLOCK_SIZE];
     TxnBlock::new(alloc, Dba(1))?.write(&mut page);
     for (place, byte) in [(0usize, 3u8), (3, 1), (45, 1), (56, 4), (60, 1), (3120, 1)] {
         let mut changed = page;
-        if place < 4096 {
+        if place < BLOCK_SIZE {
             changed[place] = byte;
         }
         let bad: Result<TxnBlock, PageFault> = decode(alloc, &changed);

@@ -1,5 +1,7 @@
 use crate::{Part, UndoBlock, UndoFault};
-use seg_base::{Dba, Ended, Kind, NoMemory, RowNo, Slot, Text, TxnId, UndoAddr, UndoPlace, Writer};
+use seg_base::{
+    BLOCK_SIZE, Dba, Ended, Kind, NoMemory, RowNo, Slot, Text, TxnId, UndoAddr, UndoPlace, Writer,
+};
 use std::alloc::Global;
 use std::test::Fail;
 
@@ -7,7 +9,7 @@ use std::test::Fail;
 struct Below(u64);
 
 impl Ended for Below {
-    ghost use Rattle.std.specs.Prelude.{nat_lt};
+    ghost use Rattle.seg_words.specs.Std.{nat_lt};
 
     ghost has_ended = { λ b t. nat_lt t b.0 };
 
@@ -77,7 +79,7 @@ fn a_page_has_one_spelling(rt: HostRuntime) -> Result<(), Fail> {
     let mut block = UndoBlock::new(alloc, Dba(37));
     let parts = [part(alloc, 9, 2)?];
     assert_eq!(rt; block.append(&parts), Ok(0));
-    let mut page = [0; 4096];
+    let mut page = [0; BLOCK_SIZE];
     block.encode(&mut page);
     assert_eq!(rt; page[0], 6);
     assert_eq!(rt; page[7], 37);

@@ -1,7 +1,7 @@
 -- Class codes in a bitmap block: 0 for a block that isn't formatted or no data, 1 for a full one, 2 to 5 for quarters of
 -- free space. Oracle Database Concepts: a bitmap in the segment tells the status of each block. The codes and the levels
 -- are this engine's own.
-use Rattle.seg_words.specs.Std.{◌≡◌, ℕ, ◌<◌, ◌≤◌, min, max, nat_lt, if◌then◌else◌, List, [], ◌∷◌, length, map, take, slice_index}
+use Rattle.std.specs.Prelude.{◌≡◌, ℕ, ◌<◌, ◌≤◌, min, max, nat_lt, if◌then◌else◌, List, [], ◌∷◌, length, map, take, slice_index}
 
 -- a code from 2 on, else 0
 abbrev pub good_code : ℕ → ℕ

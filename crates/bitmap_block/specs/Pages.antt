@@ -1,5 +1,6 @@
 -- The pages of the three levels, as contracts see them and as they are spelled. The layout is this engine's own.
-use Rattle.seg_words.specs.Std.{◌≡◌, ℕ, ◌<◌, ◌^◌, List, ◌++◌, length, drop, w32, w64, to_be_bytes}
+use Rattle.std.specs.Prelude.{◌≡◌, ℕ, ◌<◌, ◌^◌, List, ◌++◌, length, drop}
+use Rattle.std.specs.Int.{w32, w64, to_be_bytes}
 use Rattle.seg_words.specs.Types.{number_in}
 use Rattle.page_bytes.specs.Types.{page_of, head_bytes}
 use Rattle.bitmap_block.specs.Codes.{AreCodes, codes_in}

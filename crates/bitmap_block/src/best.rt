@@ -1,5 +1,5 @@
 // The best of several class codes.
-ghost use Rattle.seg_words.specs.Std.{◌≡◌};
+ghost use Rattle.std.specs.Prelude.{◌≡◌};
 ghost use Rattle.bitmap_block.specs.Codes.{best_of, good_code};
 
 fn good_code(code: u8) -> u8

@@ -1,5 +1,5 @@
 // Class codes as a page has them.
-ghost use Rattle.seg_words.specs.Std.{◌≡◌, ◌<◌, ◌≤◌, length, take};
+ghost use Rattle.std.specs.Prelude.{◌≡◌, ◌<◌, ◌≤◌, length, take};
 ghost use Rattle.bitmap_block.specs.Codes.{codes_in, AreCodes};
 
 /// Reads as many codes as there is room for, each as the nearest that there is.

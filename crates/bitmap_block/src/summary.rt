@@ -1,5 +1,5 @@
 // What the two upper levels are written as.
-ghost use Rattle.seg_words.specs.Std.{◌≡◌, ◌≤◌, ◌+◌, length};
+ghost use Rattle.std.specs.Prelude.{◌≡◌, ◌≤◌, ◌+◌, length};
 ghost use Rattle.bitmap_block.specs.Pages.{spelling_of_summary};
 
 use page_bytes::{add, begin, head_bytes};

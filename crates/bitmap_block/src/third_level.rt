@@ -1,5 +1,5 @@
 // The bitmap above all.
-ghost use Rattle.seg_words.specs.Std.{◌≡◌, ◌<◌, ◌≤◌, replicate, slice_index, slice_set};
+ghost use Rattle.std.specs.Prelude.{◌≡◌, ◌<◌, ◌≤◌, replicate, slice_index, slice_set};
 ghost use Rattle.bitmap_block.specs.Codes.{best_of};
 ghost use Rattle.bitmap_block.specs.Pages.{IsSummary};
 

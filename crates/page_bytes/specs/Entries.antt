@@ -1,5 +1,6 @@
 -- The 24 bytes of an entry of a block's transaction list.
-use Rattle.seg_words.specs.Std.{ℕ, ◌<◌, ◌^◌, List, ◌++◌, w64, to_be_bytes}
+use Rattle.std.specs.Prelude.{ℕ, ◌<◌, ◌^◌, List, ◌++◌}
+use Rattle.std.specs.Int.{w64, to_be_bytes}
 use Rattle.seg_words.specs.Types.{ListEntry, number_in}
 
 -- the transaction, its commit number, 8 zeros

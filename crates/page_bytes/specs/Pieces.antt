@@ -1,5 +1,5 @@
 -- Pieces of one size, one behind the other.
-use Rattle.seg_words.specs.Std.{ℕ, zero, suc, List, [], ◌∷◌, take, drop}
+use Rattle.std.specs.Prelude.{ℕ, zero, suc, List, [], ◌∷◌, take, drop}
 
 -- the first n pieces of some bytes, where meaning says what so many bytes read as
 unfoldable pub pieces_in : {A : Type 0} → (List ℕ → A) → ℕ → ℕ → List ℕ → List A

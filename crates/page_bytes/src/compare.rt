@@ -1,5 +1,5 @@
 // Where two runs of bytes begin to differ.
-ghost use Rattle.seg_words.specs.Std.{◌≡◌, ◌≤◌, length};
+ghost use Rattle.std.specs.Prelude.{◌≡◌, ◌≤◌, length};
 ghost use Rattle.page_bytes.specs.Pages.{first_wrong};
 
 /// How many bytes two pages begin with alike.

@@ -1,5 +1,5 @@
 // The 24 bytes of a list entry.
-ghost use Rattle.seg_words.specs.Std.{◌≡◌};
+ghost use Rattle.std.specs.Prelude.{◌≡◌};
 ghost use Rattle.page_bytes.specs.Entries.{entry_bytes, entry_from, IsListEntry};
 
 use crate::Piece;

@@ -1,5 +1,5 @@
 // Why a page can't be decoded.
-ghost use Rattle.seg_words.specs.Std.{◌≡◌};
+ghost use Rattle.std.specs.Prelude.{◌≡◌};
 ghost use Rattle.page_bytes.specs.declared.fault.PageFault.TheVariants as faults;
 
 use std::alloc::{AllocError, AllocFailed};

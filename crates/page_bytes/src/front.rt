@@ -1,5 +1,5 @@
 // A page is written from its first byte on, over zeros.
-ghost use Rattle.seg_words.specs.Std.{◌≡◌, ◌≤◌, ◌+◌, ◌++◌, [], List, ℕ, length, flat_map};
+ghost use Rattle.std.specs.Prelude.{◌≡◌, ◌≤◌, ◌+◌, ◌++◌, [], List, ℕ, length, flat_map};
 ghost use Rattle.page_bytes.specs.Pages.{IsFront};
 
 use crate::Piece;

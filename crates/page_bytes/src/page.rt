@@ -1,5 +1,5 @@
 // The one form in which a page of any kind is decoded.
-ghost use Rattle.seg_words.specs.Std.{◌≡◌, ◌≤◌, List, ℕ, IfOk};
+ghost use Rattle.std.specs.Prelude.{◌≡◌, ◌≤◌, List, ℕ, IfOk};
 ghost use Rattle.page_bytes.specs.Pages.{Decodes, IsReadAs, first_wrong};
 
 use crate::PageFault;

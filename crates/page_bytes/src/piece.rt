@@ -1,5 +1,5 @@
 // Pieces of one size, as entries of a list in a page.
-ghost use Rattle.seg_words.specs.Std.{◌≡◌, ◌≤◌, ◌+◌, ◌*◌, ◌++◌, List, ℕ, IfOk, length};
+ghost use Rattle.std.specs.Prelude.{◌≡◌, ◌≤◌, ◌+◌, ◌*◌, ◌++◌, List, ℕ, IfOk, length};
 ghost use Rattle.page_bytes.specs.Pages.{IsFront};
 ghost use Rattle.page_bytes.specs.Pieces.{pieces_in};
 

@@ -1,5 +1,5 @@
 // What the 40 bytes of a slot read as.
-ghost use Rattle.seg_words.specs.Std.{◌≡◌, ◌<◌, ◌^◌, length, IfOk};
+ghost use Rattle.std.specs.Prelude.{◌≡◌, ◌<◌, ◌^◌, length, IfOk};
 ghost use Rattle.page_bytes.specs.Slots.{fields_in, kind_as, writer_as, undo_as, link_as, len_as, room_as, row_len, slot_as};
 
 use crate::field::{number_u16, number_u32, number_u64};

@@ -1,5 +1,5 @@
 -- The small runs compute to what they are to show.
-use Rattle.seg_words.proofs.Std.{refl}
+use Rattle.std.proofs.Common.{refl}
 use Rattle.redo_model.specs.Computed.{NineRight, MigratedRight, MovedRight, ReusedRight}
 
 pub nine_right : NineRight

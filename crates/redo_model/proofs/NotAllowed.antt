@@ -1,5 +1,5 @@
 -- What is not allowed, and why.
-use Rattle.seg_words.proofs.Std.{◌≡◌, ℕ, false, drop, Option, Some, None, refl, sym, ◌∙◌, ap, arith, lit<, lit≤, true≢false}
+use Rattle.std.proofs.Common.{◌≡◌, ℕ, false, drop, Option, Some, None, refl, sym, ◌∙◌, ap, arith, lit<, lit≤, true≢false}
 use Rattle.redo_model.specs.Records.{MoveRecord}
 use Rattle.redo_model.specs.Model.{Step, has_movement, TakesEntry, MayChangeRow, MigrateAllowed, DeleteAllowed, MoveAllowed, standing, newest_of}
 use Rattle.redo_model.specs.AllowedTransactions.{takes_unused, takes_rolled_back, takes_committed}

@@ -1,7 +1,7 @@
 -- When a Move may follow the records R, and what its fields must be. SHRINK SPACE compacts rows towards the front of the
 -- segment (Oracle Database Administrator's Guide, "Shrinking Database Segments Online"); in what order rows move, and that
 -- a move is a commit of its own without changes, is this engine's own.
-use Rattle.seg_words.specs.Std.{◌≡◌, ◌⊎◌, ℕ, suc, ◌<◌, ◌≤◌, true, ◌&&◌, List, [], ◌∷◌, length, take, find, Option, Some, None}
+use Rattle.std.specs.Prelude.{◌≡◌, ◌⊎◌, ℕ, suc, ◌<◌, ◌≤◌, true, ◌&&◌, List, [], ◌∷◌, length, take, find, Option, Some, None}
 use Rattle.seg_words.specs.Types.{Shape, At, Shrink, writer_has_ended}
 use Rattle.redo_model.specs.Records.{Record, RowPart, MoveRecord}
 use Rattle.redo_model.specs.Effects.{part_addr}

@@ -1,7 +1,7 @@
 -- When a row record or a Back may follow the records R, and what its fields must be. Rows that outgrow their block are
 -- migrated whole and keep their rowid (Oracle Database Concepts, "Chained and Migrated Rows"); the return of a migrated
 -- row to its first slot, rooms, and the order of parts (head, old body, target) are this engine's own.
-use Rattle.seg_words.specs.Std.{◌≡◌, ◌≢◌, ℕ, suc, ◌≤◌, true, false, List, [], ◌∷◌, length, Option, Some, None, MatchOption}
+use Rattle.std.specs.Prelude.{◌≡◌, ◌≢◌, ℕ, suc, ◌≤◌, true, false, List, [], ◌∷◌, length, Option, Some, None, MatchOption}
 use Rattle.seg_words.specs.Types.{Shape, Kind, Empty, Row, Head, Body, Writer, By, At, Rowid, UndoAddr, UndoPlace, Slot, Open, next_room, slot_to_use, entry_for, LONGEST_ROW}
 use Rattle.redo_model.specs.Records.{Record, RowPart, BackPart, RowBody, BackRecord}
 use Rattle.redo_model.specs.Effects.{Step, part_addr}

@@ -1,6 +1,6 @@
 -- When a record of tables, extents, blocks and marks may follow the records R, and what its fields must be. This engine's
 -- own, but for the meaning of the marks (Oracle Database Concepts, "Segment Space and the High Water Mark").
-use Rattle.seg_words.specs.Std.{◌≡◌, ℕ, suc, ◌+◌, ◌<◌, ◌≤◌, min, true, false, eqb, List, [], ◌∷◌, length, map, take, drop, Option, Some, None, ◌*◌}
+use Rattle.std.specs.Prelude.{◌≡◌, ℕ, suc, ◌+◌, ◌<◌, ◌≤◌, min, true, false, eqb, List, [], ◌∷◌, length, map, take, drop, Option, Some, None, ◌*◌}
 use Rattle.seg_words.specs.Types.{Shape, first_block, class_code, is_name, MOST_PCTFREE, MOST_TABLES, MOST_EXTENTS, EXTENTS_OF_L2, ADVANCE_BLOCKS}
 use Rattle.redo_model.specs.Records.{Record, Extend, FormatBlock, Class, Lower, TableRecord, MovementRecord, ExtendRecord, FormatBlockRecord, ClassRecord, AdvanceRecord, LowerRecord}
 use Rattle.redo_model.specs.Ordinals.{lowering_count}

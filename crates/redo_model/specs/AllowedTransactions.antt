@@ -1,6 +1,6 @@
 -- When a record of transactions, undo blocks and cleaning may follow the records R, and what its fields must be. Oracle
 -- Database Concepts, "Transactions"; the table of 96 entries, which entry is taken, and the ring are this engine's own.
-use Rattle.seg_words.specs.Std.{◌≡◌, ℕ, suc, ◌<◌, ◌≤◌, Bool, true, false, cond, ◌||◌, eqb, List, [], ◌∷◌, Option, Some, None}
+use Rattle.std.specs.Prelude.{◌≡◌, ℕ, suc, ◌<◌, ◌≤◌, Bool, true, false, cond, ◌||◌, eqb, List, [], ◌∷◌, Option, Some, None}
 use Rattle.seg_words.specs.Types.{Shape, Slot, ListEntry, Block, number_of, TXN_ENTRIES, MOST_SESSIONS}
 use Rattle.redo_model.specs.Records.{Record, BeginRecord, ReuseRecord, CommitRecord, EndedRecord, CleanRecord}
 use Rattle.redo_model.specs.Ordinals.{commit_count, txn_count}

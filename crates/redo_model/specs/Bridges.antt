@@ -1,5 +1,5 @@
 -- The block's value and its slots and entries, one by one, are the same block.
-use Rattle.seg_words.specs.Std.{◌≡◌, ℕ, List, length, slice_index_or}
+use Rattle.std.specs.Prelude.{◌≡◌, ℕ, List, length, slice_index_or}
 use Rattle.seg_words.specs.Types.{new_slot, new_entry}
 use Rattle.redo_model.specs.Records.{Record}
 use Rattle.redo_model.specs.Blocks.{block_of}

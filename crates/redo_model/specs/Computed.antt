@@ -1,5 +1,5 @@
 -- What the definitions compute on the small runs.
-use Rattle.seg_words.specs.Std.{◌≡◌, ℕ, ◌+◌, true, false, List, [], ◌∷◌, map, length, Some, None}
+use Rattle.std.specs.Prelude.{◌≡◌, ℕ, ◌+◌, true, false, List, [], ◌∷◌, map, length, Some, None}
 use Rattle.seg_words.specs.Types.{Fs1, Fs4, By, At, Shrink, new_slot, new_entry}
 use Rattle.redo_model.specs.Ordinals.{commit_count, lowering_count}
 use Rattle.redo_model.specs.Transactions.{has_ended, commit_number, has_rolled_back}

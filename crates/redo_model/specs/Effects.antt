@@ -1,6 +1,6 @@
 -- What a record does: to rows and blocks, and to transactions. These are the only definitions of rows, blocks and
 -- transactions that tell the kinds of records apart. This engine's own.
-use Rattle.seg_words.specs.Std.{ℕ, ◌+◌, Bool, true, false, List, [], ◌∷◌, Option, None}
+use Rattle.std.specs.Prelude.{ℕ, ◌+◌, Bool, true, false, List, [], ◌∷◌, Option, None}
 use Rattle.seg_words.specs.Types.{Writer, By, At, UndoAddr, Slot, UndoPlace}
 use Rattle.redo_model.specs.Records.{Record, FormatBlock, Begin, Insert, Update, Migrate, Return, Delete, Commit, Back, Ended, Move, Clean, RowPart, BackPart, RowBody, MoveRecord, BackRecord, BeginRecord, CommitRecord, EndedRecord}
 

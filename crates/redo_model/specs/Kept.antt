@@ -1,7 +1,7 @@
 -- The kept class of a block, the entry of the bitmap that DBMS_SPACE counts and DBMS_REPAIR sets, whether it is exact,
 -- and the best of several. Oracle: DBMS_SPACE.SPACE_USAGE, DBMS_REPAIR.SEGMENT_FIX_STATUS. When it is changed is this
 -- engine's own.
-use Rattle.seg_words.specs.Std.{◌≡◌, ℕ, suc, max, cond, eqb, ltb, List, [], ◌∷◌, Option, Some, None}
+use Rattle.std.specs.Prelude.{◌≡◌, ℕ, suc, max, cond, eqb, ltb, List, [], ◌∷◌, Option, Some, None}
 use Rattle.seg_words.specs.Types.{Class as BlockClass, Fs4, Shape, class_code}
 use Rattle.redo_model.specs.Records.{Record, FormatBlock, Class}
 use Rattle.redo_model.specs.Blocks.{class_of_block}

@@ -1,6 +1,6 @@
 -- A lawful list: each record is allowed after those before it, and no Table and no Reuse is left without the record that
 -- it calls for. This engine's own.
-use Rattle.seg_words.specs.Std.{◌≡◌, ℕ, Bool, true, false, List, [], ◌∷◌}
+use Rattle.std.specs.Prelude.{◌≡◌, ℕ, Bool, true, false, List, [], ◌∷◌}
 use Rattle.seg_words.specs.Types.{Shape}
 use Rattle.redo_model.specs.Records.{Record, Table, Movement, Extend, FormatBlock, Class, Advance, Lower, Begin, Reuse, Insert, Update, Migrate, Return, Delete, Commit, Back, Ended, Move, Clean}
 use Rattle.redo_model.specs.Effects.{Effect, Adds, effect_of}

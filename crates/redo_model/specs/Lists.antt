@@ -1,7 +1,7 @@
 -- The redo list, newest first: `r ∷ R` is R with the record r added. A record's place in the list from 1 is its LSN.
 -- Oracle Database Concepts, "Online Redo Log": redo records describe each change. That every promise is said over the
 -- list of all of them is this engine's own.
-use Rattle.seg_words.specs.Std.{ℕ, suc, cond, ltb, List, [], ◌∷◌, length}
+use Rattle.std.specs.Prelude.{ℕ, suc, cond, ltb, List, [], ◌∷◌, length}
 use Rattle.redo_model.specs.Records.{Record}
 
 -- the list of the first n records

@@ -1,7 +1,7 @@
 -- Numbers are ordinals: a commit number (SCN) counts Commit and Move records, a row number Insert records, a transaction
 -- number Begin records, a lowering Lower records. Oracle Database Concepts, "System Change Numbers"; that they are
 -- ordinals is this engine's own.
-use Rattle.seg_words.specs.Std.{ℕ, suc, Bool, true, false, cond, List, [], ◌∷◌}
+use Rattle.std.specs.Prelude.{ℕ, suc, Bool, true, false, cond, List, [], ◌∷◌}
 use Rattle.redo_model.specs.Records.{Record, Lower, Begin, Insert, Commit, Move}
 
 abbrev pub is_commit : Record → Bool

@@ -1,5 +1,5 @@
 -- For each kind of record a list after which it is not allowed, for the reason that its row of the definition gives.
-use Rattle.seg_words.specs.Std.{ℕ, true, List, [], ◌∷◌, drop, Some, None}
+use Rattle.std.specs.Prelude.{ℕ, true, List, [], ◌∷◌, drop, Some, None}
 use Rattle.seg_words.specs.Types.{Fs4, By, At, new_slot}
 use Rattle.redo_model.specs.Records.{Record, Movement, Extend, Lower, Begin, Reuse, Update, Migrate, Return, Delete, Back, Ended, Move, RowBody}
 use Rattle.redo_model.specs.Lawful.{IsAllowed}

@@ -1,7 +1,7 @@
 -- A block slot by slot and entry by entry, for laws: the image in a slot, the number of slots, the transaction in a list
 -- entry, the number of entries. Oracle Database Concepts, "Data Block Format" (row directory, interested transaction
 -- list); the numbers are this engine's own.
-use Rattle.seg_words.specs.Std.{ℕ, suc, max, Bool, false, cond, ◌&&◌, eqb, List, [], ◌∷◌, Option, Some, None}
+use Rattle.std.specs.Prelude.{ℕ, suc, max, Bool, false, cond, ◌&&◌, eqb, List, [], ◌∷◌, Option, Some, None}
 use Rattle.seg_words.specs.Types.{Writer, By, At, Slot, ListEntry, new_slot, new_entry, clean_slot, clean_entry}
 use Rattle.redo_model.specs.Records.{Record, RowPart}
 use Rattle.redo_model.specs.Effects.{Effect, Still, Formats, Adds, TakesBack, Cleans, effect_of, Placed, written, restored}

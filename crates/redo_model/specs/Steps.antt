@@ -1,7 +1,7 @@
 -- The row records and moves of a list, those that stand, and whose is the newest of them. A rollback takes a
 -- transaction's changes back one by one (Oracle Database Concepts, "Rollback of Transactions"); the undo address by which
 -- a Back names the record that it takes back is this engine's own.
-use Rattle.seg_words.specs.Std.{◌≡◌, ℕ, Bool, true, false, cond, not, ◌&&◌, ◌||◌, eqb, List, [], ◌∷◌, Option, Some, None, filter}
+use Rattle.std.specs.Prelude.{◌≡◌, ℕ, Bool, true, false, cond, not, ◌&&◌, ◌||◌, eqb, List, [], ◌∷◌, Option, Some, None, filter}
 use Rattle.seg_words.specs.Types.{Writer, By, At, UndoAddr}
 use Rattle.redo_model.specs.Records.{Record}
 use Rattle.redo_model.specs.Effects.{Step, Effect, Adds, TakesBack, effect_of}

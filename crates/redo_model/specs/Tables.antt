@@ -1,6 +1,6 @@
 -- A table at a commit number, and what a transaction sees of it beside: read consistency (Oracle Database Concepts, "Data
 -- Concurrency and Consistency"). No blocks, no places, no undo.
-use Rattle.seg_words.specs.Std.{ℕ, zero, suc, Bool, true, false, cond, ◌&&◌, eqb, ltb, List, [], ◌∷◌, ◌++◌, Option, Some, None}
+use Rattle.std.specs.Prelude.{ℕ, zero, suc, Bool, true, false, cond, ◌&&◌, eqb, ltb, List, [], ◌∷◌, ◌++◌, Option, Some, None}
 use Rattle.seg_words.specs.Types.{Kind, Empty, Row, Head, Body}
 use Rattle.redo_model.specs.Records.{Record, RowPart}
 use Rattle.redo_model.specs.Effects.{Step, TxnEffect, Commits, txn_effect}

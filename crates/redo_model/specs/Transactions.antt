@@ -1,6 +1,6 @@
 -- States of transactions. Oracle Database Concepts, "Transactions": one begins, and ends by a commit or a rollback. The
 -- table of 96 entries, and that a transaction whose entry was taken is forgotten, is this engine's own.
-use Rattle.seg_words.specs.Std.{◌≡◌, ℕ, suc, Bool, true, false, cond, not, ◌&&◌, ◌||◌, eqb, ltb, List, [], ◌∷◌, Option, Some, None}
+use Rattle.std.specs.Prelude.{◌≡◌, ℕ, suc, Bool, true, false, cond, not, ◌&&◌, ◌||◌, eqb, ltb, List, [], ◌∷◌, Option, Some, None}
 use Rattle.redo_model.specs.Records.{Record}
 use Rattle.redo_model.specs.Effects.{TxnEffect, Keeps, Begins, Commits, Ends, txn_effect}
 use Rattle.redo_model.specs.Ordinals.{commit_count}

@@ -1,7 +1,7 @@
 -- Undo blocks: what they hold, whose it is, which one is used next, and which undo a scan needs. Oracle Database Concepts,
 -- "Undo Segments": undo is kept in a ring, and that of ended transactions is overwritten. The ring of blocks, the address
 -- of a part and when a block may be reused are this engine's own.
-use Rattle.seg_words.specs.Std.{◌≡◌, ℕ, zero, suc, ◌+◌, ◌-◌, ◌<◌, min, Bool, true, false, cond, not, ◌&&◌, ◌||◌, eqb, ltb, List, [], ◌∷◌, ◌++◌, length, map, Option, Some, None, filter, find, Contains, MatchOption, sum_by}
+use Rattle.std.specs.Prelude.{◌≡◌, ℕ, zero, suc, ◌+◌, ◌-◌, ◌<◌, min, Bool, true, false, cond, not, ◌&&◌, ◌||◌, eqb, ltb, List, [], ◌∷◌, ◌++◌, length, map, Option, Some, None, filter, find, Contains, MatchOption, sum_by}
 use Rattle.seg_words.specs.Types.{Shape, Writer, By, At, UndoAddr, Slot, UndoPlace, BLOCK_ROOM, UNDO_PART_SIZE, OWN_BLOCKS}
 use Rattle.redo_model.specs.Records.{Record, Reuse, RowPart}
 use Rattle.redo_model.specs.Effects.{Step, Effect, Adds, effect_of}

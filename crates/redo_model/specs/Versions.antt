@@ -1,6 +1,6 @@
 -- The images of a slot, newest first, and which of them a scan at a commit number sees: read consistency by undo (Oracle
 -- Database Concepts, "Multiversion Read Consistency"). That a migrated row is met at its body is this engine's own.
-use Rattle.seg_words.specs.Std.{◌≡◌, ℕ, zero, suc, Bool, true, cond, not, ◌||◌, eqb, leb, List, [], ◌∷◌, ◌++◌, map, Option, Some, None, filter}
+use Rattle.std.specs.Prelude.{◌≡◌, ℕ, zero, suc, Bool, true, cond, not, ◌||◌, eqb, leb, List, [], ◌∷◌, ◌++◌, map, Option, Some, None, filter}
 use Rattle.seg_words.specs.Types.{Writer, By, At, UndoAddr, Slot}
 use Rattle.redo_model.specs.Records.{Record, RowPart}
 use Rattle.redo_model.specs.Effects.{Step, Effect, Still, Formats, Adds, TakesBack, Cleans, effect_of, part_addr}

@@ -1,6 +1,6 @@
 -- Small runs as lists of records, newest first, in a store of 64 blocks with extents of 8 and 2 undo blocks: undo blocks 37
 -- and 38, extents from 39, 47 and 55 on; the first table's data blocks are 43 to 46, then 48 to 54.
-use Rattle.seg_words.specs.Std.{ℕ, true, List, [], ◌∷◌, length, Option, Some, None, replicate}
+use Rattle.std.specs.Prelude.{ℕ, true, List, [], ◌∷◌, length, Option, Some, None, replicate}
 use Rattle.seg_words.specs.Types.{Class as BlockClass, Fs1, Shape, Row, Head, Body, Empty, Writer, By, At, UndoAddr, Slot, UndoPlace, new_slot}
 use Rattle.redo_model.specs.Records.{Record, Table, Movement, Extend, FormatBlock, Class, Advance, Lower, Begin, Reuse, Insert, Update, Migrate, Return, Delete, Commit, Back, Ended, Move, Clean, RowPart, RowBody}
 use Rattle.redo_model.specs.AllowedRows.{at_place}

@@ -1,5 +1,5 @@
 -- Reading so many values one after the other, as a loop does.
-use Rattle.seg_words.proofs.Std.{◌≡◌, ℕ, suc, ◌-◌, ◌+◌, ◌≤◌, ◌<◌, List, [], ◌∷◌, ◌++◌, length, Option, Some, None, Result, Err, refl, sym, ap, ◌∙◌, append_assoc, arith, append-nil, length-append}
+use Rattle.std.proofs.Common.{◌≡◌, ℕ, suc, ◌-◌, ◌+◌, ◌≤◌, ◌<◌, List, [], ◌∷◌, ◌++◌, length, Option, Some, None, Result, Err, refl, sym, ap, ◌∙◌, append_assoc, arith, append-nil, length-append}
 use Rattle.std.specs.Global.{Vec}
 use Rattle.redo_record.specs.Types.{ReadFault, Reader, ◌>>=◌, many, Reads, ReadsItems}
 use Rattle.redo_record.specs.declared.fault.ReadFault.TheVariants as faults

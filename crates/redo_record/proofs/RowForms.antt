@@ -1,5 +1,5 @@
 -- The forms of the records that change rows.
-use Rattle.seg_words.proofs.Std.{◌≡◌, ℕ, ◌^◌, ◌<◌, ◌≤◌, true, eqb, leb, ◌&&◌, List, [], ◌∷◌, ◌++◌, length, Option, Some, None, refl, sym, ap, subst, ◌∙◌, append_assoc, arith, is_none, w64, eqb-true, leb-true, le-leb}
+use Rattle.std.proofs.Common.{◌≡◌, ℕ, ◌^◌, ◌<◌, ◌≤◌, true, eqb, leb, ◌&&◌, List, [], ◌∷◌, ◌++◌, length, Option, Some, None, refl, sym, ap, subst, ◌∙◌, append_assoc, arith, is_none, w64, eqb-true, leb-true, le-leb}
 use Rattle.seg_words.specs.Types.{undo_or_zeros, UndoPlace}
 use Rattle.redo_record.specs.Types.{RowBody, MoveRecord, big_endian, address, place_bytes, place_or_zeros, row_head, row_part, back_part, row_parts, back_parts, row_body, back, moved, IsRowPart, IsBackPart, AreParts, IsRowBody, IsBack, IsMove, row_part_of, row_part_at, back_part_of, back_part_at, is_part_count, part_count_at, second, row_parts_at, back_parts_at, row_body_of, row_body_at, back_of, back_at, move_from, move_at}
 use Rattle.redo_record.proofs.Laws.{Spells, AreMany, byte_spells, spells32, spells64, both_spell, made_spell, chosen_spell, tested_spell, many_spell, spell_as, test_some}

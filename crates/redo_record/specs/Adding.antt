@@ -1,5 +1,5 @@
 -- Adding bytes at the end of others.
-use Rattle.seg_words.specs.Std.{◌≡◌, List, ℕ, ◌++◌, Result, Ok, Err}
+use Rattle.std.specs.Prelude.{◌≡◌, List, ℕ, ◌++◌, Result, Ok, Err}
 use Rattle.seg_words.specs.Types.{NoMemory}
 
 -- some bytes begin with others

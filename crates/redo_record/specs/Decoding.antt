@@ -1,5 +1,5 @@
 -- A record at a place of some bytes, and what decoding answers there.
-use Rattle.seg_words.specs.Std.{◌≡◌, ℕ, ◌+◌, List, ◌++◌, length, drop, Result, Ok, Err}
+use Rattle.std.specs.Prelude.{◌≡◌, ℕ, ◌+◌, List, ◌++◌, length, drop, Result, Ok, Err}
 use Rattle.redo_record.specs.OwnTypes.{Record, RecordFault, BadRecord, NoMemory, ReadFault}
 use Rattle.redo_record.specs.Spelling.{spelling}
 use Rattle.redo_record.specs.Spelled.{HasSpelling}

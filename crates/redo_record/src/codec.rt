@@ -1,5 +1,5 @@
 // Records as bytes, both ways.
-ghost use Rattle.seg_words.specs.Std.{◌≡◌, ◌++◌, List, ℕ, OnErr, OnOk};
+ghost use Rattle.std.specs.Prelude.{◌≡◌, ◌++◌, List, ℕ, OnErr, OnOk};
 ghost use Rattle.redo_record.specs.declared.record.Record.{Record};
 ghost use Rattle.redo_record.specs.Adding.{Begins};
 ghost use Rattle.redo_record.specs.Spelling.{spelling};

@@ -1,5 +1,5 @@
 // Why a record is not read.
-ghost use Rattle.seg_words.specs.Std.{◌≡◌};
+ghost use Rattle.std.specs.Prelude.{◌≡◌};
 ghost use Rattle.redo_record.specs.declared.fault.ReadFault.TheVariants as faults;
 
 use seg_base::NoMemory as OutOfMemory;

@@ -1,5 +1,5 @@
 // The parts of a record that changes rows: one for each slot that it changes.
-ghost use Rattle.seg_words.specs.Std.{◌≡◌, ◌<◌, ◌≤◌, ◌++◌, ◌∷◌, [], length, IfOk, OnErr, OnOk};
+ghost use Rattle.std.specs.Prelude.{◌≡◌, ◌<◌, ◌≤◌, ◌++◌, ◌∷◌, [], length, IfOk, OnErr, OnOk};
 
 use seg_base::{Dba, NoMemory, Slot};
 use std::alloc::Global;
@@ -33,7 +33,7 @@ pub struct Parts<T> {
 }
 
 impl<T> Model for Parts<T> {
-    ghost use Rattle.seg_words.specs.Std.{List, ◌≤◌, length};
+    ghost use Rattle.std.specs.Prelude.{List, ◌≤◌, length};
 
     ghost Value = { List T };
 

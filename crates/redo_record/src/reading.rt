@@ -1,5 +1,5 @@
 // Reading a record by its kind.
-ghost use Rattle.seg_words.specs.Std.{◌≡◌};
+ghost use Rattle.std.specs.Prelude.{◌≡◌};
 ghost use Rattle.redo_record.specs.Forms.{Reads};
 ghost use Rattle.redo_record.specs.Reading.{fields_at, record_at};
 

@@ -1,5 +1,5 @@
 // Records that change tables, and their extents, marks and bitmap blocks.
-ghost use Rattle.seg_words.specs.Std.{◌≡◌, ◌<◌, ◌^◌, ◌++◌, ◌∷◌, [], length, OnErr, OnOk};
+ghost use Rattle.std.specs.Prelude.{◌≡◌, ◌<◌, ◌^◌, ◌++◌, ◌∷◌, [], length, OnErr, OnOk};
 
 use seg_base::{Class, Dba, Name, NoMemory, Obj};
 use std::alloc::Global;
@@ -98,7 +98,7 @@ pub struct Extents {
 }
 
 impl Model for Extents {
-    ghost use Rattle.seg_words.specs.Std.{List, ℕ, ◌<◌, ◌^◌, length};
+    ghost use Rattle.std.specs.Prelude.{List, ℕ, ◌<◌, ◌^◌, length};
 
     ghost Value = { List ℕ };
 

@@ -1,5 +1,5 @@
 // Records that begin and end transactions, that use undo blocks again, and that clean blocks.
-ghost use Rattle.seg_words.specs.Std.{◌≡◌, ◌<◌, ◌^◌, ◌++◌, ◌∷◌, [], length, OnErr, OnOk};
+ghost use Rattle.std.specs.Prelude.{◌≡◌, ◌<◌, ◌^◌, ◌++◌, ◌∷◌, [], length, OnErr, OnOk};
 
 use seg_base::{Dba, NoMemory, Scn, TxnId};
 use std::alloc::Global;
@@ -51,7 +51,7 @@ pub struct EndedTransactions {
 }
 
 impl Model for EndedTransactions {
-    ghost use Rattle.seg_words.specs.Std.{List, ℕ, ◌<◌, ◌^◌, length};
+    ghost use Rattle.std.specs.Prelude.{List, ℕ, ◌<◌, ◌^◌, length};
 
     ghost Value = { List (ℕ × ℕ) };
 

@@ -1,5 +1,5 @@
 // Writing a record behind its kind.
-ghost use Rattle.seg_words.specs.Std.{◌≡◌};
+ghost use Rattle.std.specs.Prelude.{◌≡◌};
 ghost use Rattle.redo_record.specs.Adding.{Adds};
 ghost use Rattle.redo_record.specs.Spelling.{spelling, fields, kind_of};
 

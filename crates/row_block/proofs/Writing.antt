@@ -1,5 +1,5 @@
 -- A page that is written is spelled.
-use Rattle.seg_words.proofs.Std.{◌≡◌, ℕ, List, [], ◌++◌, length, ap, ◌∙◌, flat_map}
+use Rattle.std.proofs.Common.{◌≡◌, ℕ, List, [], ◌++◌, length, ap, ◌∙◌, flat_map}
 use Rattle.page_bytes.specs.Types.{page_of, head_bytes, IsFront, entry_bytes}
 use Rattle.seg_words.specs.Types.{slot_bytes}
 use Rattle.row_block.specs.Types.{RowPage, row_bytes, spelling}

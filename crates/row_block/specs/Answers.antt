@@ -1,5 +1,5 @@
 -- What the calls that change a row block answer, and what stands afterwards.
-use Rattle.seg_words.specs.Std.{◌≡◌, ℕ, ◌<◌, ◌≤◌, Bool, List, length, map, Some, None, Result, Ok, Err}
+use Rattle.std.specs.Prelude.{◌≡◌, ℕ, ◌<◌, ◌≤◌, Bool, List, length, map, Some, None, Result, Ok, Err}
 use Rattle.row_block.specs.declared.fault.BlockFault.{BlockFault}
 use Rattle.row_block.specs.declared.fault.BlockFault.TheVariants.{NoRoom, NoSlot, BadPage, NoMemory}
 use Rattle.seg_words.specs.Types.{ListEntry, Block, put_entry, free_of, entry_for, LIST_ENTRY_SIZE, MOST_LIST_ENTRIES}

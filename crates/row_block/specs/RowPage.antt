@@ -1,5 +1,5 @@
 -- A row block's page as contracts see it.
-use Rattle.seg_words.specs.Std.{ℕ, ◌-◌, ◌<◌, ◌≤◌, Bool, true, if◌then◌else◌, nat_lt, nat_le, length, slice_index_or, All}
+use Rattle.std.specs.Prelude.{ℕ, ◌-◌, ◌<◌, ◌≤◌, Bool, true, if◌then◌else◌, nat_lt, nat_le, length, slice_index_or, All}
 use Rattle.seg_words.specs.Types.{Slot, Block, new_slot, new_entry, put_slot, put_entry, slot_size, used_of, BLOCK_ROOM, MOST_SLOTS, MOST_LIST_ENTRIES}
 
 pub record RowPage : Type 0 where

@@ -1,5 +1,5 @@
 // Ended transactions are taken out of slots and list entries.
-ghost use Rattle.seg_words.specs.Std.{◌≡◌, ◌≤◌, length, map, All};
+ghost use Rattle.std.specs.Prelude.{◌≡◌, ◌≤◌, length, map, All};
 ghost use Rattle.seg_words.specs.Types.{number_of, number_of_writer, clean_slot, clean_entry};
 
 use seg_base::{ListEntry, Scn, Slot, TxnId, Writer};

@@ -1,5 +1,6 @@
 // The transaction list of a block, 2 to 8 entries that take no memory.
-ghost use Rattle.seg_words.specs.Std.{◌≡◌, ◌<◌, ◌≤◌, ◌∷◌, ◌++◌, [], length, map, set, cond, ltb, Some, None, position_or_len};
+ghost use Rattle.std.specs.Prelude.{◌≡◌, ◌<◌, ◌≤◌, ◌∷◌, ◌++◌, [], length, map, set, cond, ltb, Some, None};
+ghost use Rattle.std.specs.List.{position_or_len};
 ghost use Rattle.seg_words.specs.Types.{new_entry, put, clean_entry, names, is_spare};
 
 use crate::clean::clean_entries;
@@ -20,7 +21,7 @@ pub struct Entries {
 }
 
 impl Model for Entries {
-    ghost use Rattle.seg_words.specs.Std.{List, ◌≤◌, take};
+    ghost use Rattle.std.specs.Prelude.{List, ◌≤◌, take};
     ghost use Rattle.seg_words.specs.Types.{ListEntry, MOST_LIST_ENTRIES};
 
     ghost Value = { List ListEntry };

@@ -1,5 +1,5 @@
 // Why a call on a row block is refused.
-ghost use Rattle.seg_words.specs.Std.{◌≡◌};
+ghost use Rattle.std.specs.Prelude.{◌≡◌};
 ghost use Rattle.row_block.specs.declared.fault.BlockFault.TheVariants as faults;
 
 use page_bytes::PageFault;
@@ -47,7 +47,7 @@ impl From<seg_base::NoMemory> for BlockFault {
 }
 
 impl From<PageFault> for BlockFault {
-    ghost use Rattle.seg_words.specs.Std.{◌≡◌};
+    ghost use Rattle.std.specs.Prelude.{◌≡◌};
     ghost use Rattle.row_block.specs.Faults.{fault_of};
 
     ghost from_gives = { λ f e. e ≡ fault_of f };

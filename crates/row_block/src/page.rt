@@ -1,5 +1,5 @@
 // The page of a row block.
-ghost use Rattle.seg_words.specs.Std.{◌≡◌, ◌≤◌, ◌<◌, ◌^◌, ◌+◌, ◌*◌, ◌++◌, List, ℕ, length, take, drop, IfOk, All, flat_map};
+ghost use Rattle.std.specs.Prelude.{◌≡◌, ◌≤◌, ◌<◌, ◌^◌, ◌+◌, ◌*◌, ◌++◌, List, ℕ, length, take, drop, IfOk, All, flat_map};
 ghost use Rattle.page_bytes.specs.Types.{IsFront};
 ghost use Rattle.seg_words.specs.Types.{slot_bytes};
 ghost use Rattle.row_block.specs.RowPage.{IsHeld};

@@ -1,4 +1,4 @@
-ghost use Rattle.seg_words.specs.Std.{◌≤◌, IfOk};
+ghost use Rattle.std.specs.Prelude.{◌≤◌, IfOk};
 ghost use Rattle.row_block.specs.RowPage.{IsImage};
 
 use super::*;
@@ -14,7 +14,7 @@ use std::test::Fail;
 struct EndedBelow(u64);
 
 impl Ended for EndedBelow {
-    ghost use Rattle.seg_words.specs.Std.{nat_lt};
+    ghost use Rattle.std.specs.Prelude.{nat_lt};
 
     ghost has_ended = { λ e t. nat_lt t e.0 };
 

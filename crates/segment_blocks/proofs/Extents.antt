@@ -1,5 +1,5 @@
 -- The extent at an index.
-use Rattle.seg_words.proofs.Std.{◌≡◌, ℕ, zero, suc, ◌<◌, ◌≤◌, List, [], ◌∷◌, length, get_or, Some, None, refl, arith}
+use Rattle.std.proofs.Common.{◌≡◌, ℕ, zero, suc, ◌<◌, ◌≤◌, List, [], ◌∷◌, length, get_or, Some, None, refl, arith}
 use Rattle.segment_blocks.specs.Types.{extent_at}
 
 pub extent_at_some : (xs : List ℕ) (i d : ℕ) → i < length xs → extent_at xs i ≡ Some (get_or xs i d)

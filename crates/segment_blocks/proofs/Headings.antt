@@ -1,5 +1,5 @@
 -- The header of the table with a number.
-use Rattle.seg_words.proofs.Std.{◌≡◌, ℕ, zero, suc, ◌-◌, ◌<◌, ◌≤◌, List, [], ◌∷◌, length, get_or, None, refl, ap, ◌∙◌, arith}
+use Rattle.std.proofs.Common.{◌≡◌, ℕ, zero, suc, ◌-◌, ◌<◌, ◌≤◌, List, [], ◌∷◌, length, get_or, None, refl, ap, ◌∙◌, arith}
 use Rattle.segment_blocks.specs.Types.{CatalogueEntry, header_of_table, header_of}
 
 header_next : (es : List CatalogueEntry) (i : ℕ) (d : CatalogueEntry) → i < length es → header_of es (suc i) ≡ header_of_table (get_or es i d).table

@@ -1,5 +1,5 @@
 -- The least free extent.
-use Rattle.seg_words.proofs.Std.{◌≡◌, ℕ, ◌+◌, ◌<◌, ◌≤◌, Bool, true, false, not, List, refl, sym, ap, ◌∙◌, subst, inl, inr, arith, replicate, ◌/◌, ◌*◌, take, length, get_or, set, length-take, length-set, get_or-set_same}
+use Rattle.std.proofs.Common.{◌≡◌, ℕ, ◌+◌, ◌<◌, ◌≤◌, Bool, true, false, not, List, refl, sym, ap, ◌∙◌, subst, inl, inr, arith, replicate, ◌/◌, ◌*◌, take, length, get_or, set, length-take, length-set, get_or-set_same}
 use Rattle.std.proofs.Math.Nat.{eq-or-lt_of_le}
 use Rattle.segment_blocks.specs.Types.{is_used, AreUsed, IsLeastFree, HasBits, bits_in}
 

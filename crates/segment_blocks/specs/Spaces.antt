@@ -1,6 +1,7 @@
 -- The space bitmap: which extents of the store are in use (Oracle Database Concepts, "Extent Management": a locally
 -- managed tablespace tracks extents in bitmaps). The layout is this engine's own.
-use Rattle.seg_words.specs.Std.{◌≡◌, ℕ, ◌-◌, ◌*◌, ◌/◌, ◌%◌, ◌<◌, ◌^◌, ◌==◌, Bool, true, false, List, ◌++◌, length, slice_index, slice_set, take, drop, Option, MatchOption, w32, w64, to_be_bytes}
+use Rattle.std.specs.Prelude.{◌≡◌, ℕ, ◌-◌, ◌*◌, ◌/◌, ◌%◌, ◌<◌, ◌^◌, ◌==◌, Bool, true, false, List, ◌++◌, length, slice_index, slice_set, take, drop, Option, MatchOption}
+use Rattle.std.specs.Int.{w32, w64, to_be_bytes}
 use Rattle.seg_words.specs.Types.{number_in}
 use Rattle.page_bytes.specs.Types.{page_of, head_bytes}
 

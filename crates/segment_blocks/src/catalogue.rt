@@ -1,5 +1,5 @@
 // The catalogue, block 2.
-ghost use Rattle.seg_words.specs.Std.{◌≡◌, ◌≤◌, ◌+◌, ◌<◌, length, IfSome, position};
+ghost use Rattle.std.specs.Prelude.{◌≡◌, ◌≤◌, ◌+◌, ◌<◌, length, IfSome, position};
 ghost use Rattle.segment_blocks.specs.Catalogues.{has_table, header_of_table, header_of, is_named, spelling_of_tables, table_count, table_named};
 
 use crate::entry::{CatalogueEntry, NamedTable};
@@ -19,7 +19,7 @@ pub struct Catalogue {
 }
 
 impl Model for Catalogue {
-    ghost use Rattle.seg_words.specs.Std.{◌≡◌, length};
+    ghost use Rattle.std.specs.Prelude.{◌≡◌, length};
     ghost use Rattle.segment_blocks.specs.Catalogues.{Tables};
     ghost use Rattle.seg_words.specs.Types.{MOST_TABLES};
 

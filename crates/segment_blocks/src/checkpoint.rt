@@ -1,5 +1,5 @@
 // The checkpoint page, block 0.
-ghost use Rattle.seg_words.specs.Std.{◌≡◌};
+ghost use Rattle.std.specs.Prelude.{◌≡◌};
 ghost use Rattle.segment_blocks.specs.Checkpoints.{spelling_of_checkpoint, IsCheckpoint};
 
 use page_bytes::{PageForm, add, begin, head_bytes, in_range, number_u32, number_u64};

@@ -1,5 +1,5 @@
 // An entry of the catalogue, in 64 bytes.
-ghost use Rattle.seg_words.specs.Std.{◌≡◌, ◌≤◌, ◌+◌, ◌++◌, List, ℕ, length, replicate, IfOk, Some, None};
+ghost use Rattle.std.specs.Prelude.{◌≡◌, ◌≤◌, ◌+◌, ◌++◌, List, ℕ, length, replicate, IfOk, Some, None};
 ghost use Rattle.page_bytes.specs.Types.{IsFront};
 ghost use Rattle.segment_blocks.specs.Catalogues.{name_bytes, entry_in, spelled_table};
 

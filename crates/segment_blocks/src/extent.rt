@@ -1,5 +1,5 @@
 // An extent's number in four bytes.
-ghost use Rattle.seg_words.specs.Std.{◌≡◌};
+ghost use Rattle.std.specs.Prelude.{◌≡◌};
 ghost use Rattle.segment_blocks.specs.Headers.{extent_bytes, extent_in};
 
 use page_bytes::{Piece, add, number_u32};
@@ -12,7 +12,7 @@ use std::marker::Model;
 pub struct ExtentNumber(pub u32);
 
 impl Model for ExtentNumber {
-    ghost use Rattle.seg_words.specs.Std.{ℕ};
+    ghost use Rattle.std.specs.Prelude.{ℕ};
 
     ghost Value = { ℕ };
 
@@ -22,7 +22,7 @@ impl Model for ExtentNumber {
 }
 
 impl Piece for ExtentNumber {
-    ghost use Rattle.seg_words.specs.Std.{◌<◌, ◌^◌, refl};
+    ghost use Rattle.std.specs.Prelude.{◌<◌, ◌^◌, refl};
     ghost use Rattle.segment_blocks.specs.Headers.{extent_bytes, extent_in};
     ghost use Rattle.segment_blocks.specs.HeaderAgain.{extent_again};
 

@@ -1,5 +1,5 @@
 // A segment's header.
-ghost use Rattle.seg_words.specs.Std.{◌≡◌, ◌≤◌, ◌^◌, ◌<◌, [], false, List, ℕ, length, IfOk};
+ghost use Rattle.std.specs.Prelude.{◌≡◌, ◌≤◌, ◌^◌, ◌<◌, [], false, List, ℕ, length, IfOk};
 ghost use Rattle.segment_blocks.specs.Headers.{Header, flag, fields_of, is_on, obj_in, extent_at, header_with, spelling_of_header};
 
 use crate::extent::ExtentNumber;
@@ -28,7 +28,7 @@ pub struct SegmentHeader {
 }
 
 impl Model for SegmentHeader {
-    ghost use Rattle.seg_words.specs.Std.{◌≤◌, length};
+    ghost use Rattle.std.specs.Prelude.{◌≤◌, length};
     ghost use Rattle.segment_blocks.specs.Headers.{Header, HasLimits};
 
     ghost Value = { Header };

@@ -1,5 +1,5 @@
 // The space bitmap, block 3.
-ghost use Rattle.seg_words.specs.Std.{◌≡◌, ◌<◌, ◌≤◌, ◌^◌, ◌-◌, length, not, replicate, IfOk};
+ghost use Rattle.std.specs.Prelude.{◌≡◌, ◌<◌, ◌≤◌, ◌^◌, ◌-◌, length, not, replicate, IfOk};
 ghost use Rattle.segment_blocks.specs.Spaces.{is_used, Finds, spelling_of_space, bits_in, HasBits, IsSpace};
 
 use page_bytes::{PageForm, add, begin, head_bytes, in_range, number_u32, number_u64};

@@ -1,5 +1,5 @@
 -- The page of the table, read and written part by part.
-use Rattle.seg_words.proofs.Std.{◌≡◌, ℕ, ◌+◌, ◌*◌, ◌≤◌, List, [], ◌++◌, length, drop, Option, refl, ap, arith, w32, w64, flat_map}
+use Rattle.std.proofs.Common.{◌≡◌, ℕ, ◌+◌, ◌*◌, ◌≤◌, List, [], ◌++◌, length, drop, Option, refl, ap, arith, w32, w64, flat_map}
 use Rattle.seg_words.specs.Types.{number_in, BLOCK_SIZE, TXN_ENTRIES}
 use Rattle.page_bytes.specs.Types.{IsFront, page_of, pieces_in}
 use Rattle.page_bytes.proofs.PiecesIn.{length-pieces_in, length-spelled}

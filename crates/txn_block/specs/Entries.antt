@@ -1,7 +1,7 @@
 -- Entries of the transaction table. Oracle Database Concepts, "Undo Segments" and "Transactions": a transaction has an
 -- entry in a table, which others use again once it has ended. That there are 96, and which is used next, is this
 -- engine's own.
-use Rattle.seg_words.specs.Std.{ℕ, ◌==◌, Bool, true, false, List, find, Option, Some, None}
+use Rattle.std.specs.Prelude.{ℕ, ◌==◌, Bool, true, false, List, find, Option, Some, None}
 use Rattle.seg_words.specs.Types.{UndoAddr}
 use Rattle.txn_block.specs.OwnTypes.{Outcome, Active, Committed, RolledBack, TableEntry, Unused, Used}
 use Rattle.txn_block.specs.declared.entry.State as states

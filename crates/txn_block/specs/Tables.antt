@@ -1,5 +1,5 @@
 -- The transaction table as contracts see it, and which entry is used next.
-use Rattle.seg_words.specs.Std.{◌≡◌, ◌⊎◌, ℕ, ◌<◌, ◌≤◌, Bool, true, false, List, length, slice_index_or, nat_le, Option, Some, None, if◌then◌else◌}
+use Rattle.std.specs.Prelude.{◌≡◌, ◌⊎◌, ℕ, ◌<◌, ◌≤◌, Bool, true, false, List, length, slice_index_or, nat_le, Option, Some, None, if◌then◌else◌}
 use Rattle.txn_block.specs.OwnTypes.{TableEntry, Unused}
 use Rattle.txn_block.specs.Entries.{is_unused, is_rolled_back, committed, is_active}
 

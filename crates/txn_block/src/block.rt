@@ -1,5 +1,5 @@
 // The transaction table.
-ghost use Rattle.seg_words.specs.Std.{◌≡◌, ◌<◌, ◌≤◌, ◌^◌, [], replicate, ◌++◌, length, slice_get, position, option_copied, IfOk, IfSome, None, flat_map};
+ghost use Rattle.std.specs.Prelude.{◌≡◌, ◌<◌, ◌≤◌, ◌^◌, [], replicate, ◌++◌, length, slice_get, position, option_copied, IfOk, IfSome, None, flat_map};
 ghost use Rattle.txn_block.specs.declared.entry.TableEntry.TheVariants.{Unused};
 ghost use Rattle.txn_block.specs.Entries.{names, state_in, state_told, last_undo_in, undo_told, told};
 ghost use Rattle.txn_block.specs.Tables.{TxnTable, TakesNext};
@@ -33,7 +33,7 @@ pub struct TxnBlock {
 }
 
 impl Model for TxnBlock {
-    ghost use Rattle.seg_words.specs.Std.{length};
+    ghost use Rattle.std.specs.Prelude.{length};
     ghost use Rattle.txn_block.specs.Tables.{TxnTable};
     ghost use Rattle.txn_block.specs.Pages.{HasEntries};
 

@@ -1,5 +1,5 @@
 // Entries of the transaction table.
-ghost use Rattle.seg_words.specs.Std.{◌≡◌};
+ghost use Rattle.std.specs.Prelude.{◌≡◌};
 ghost use Rattle.txn_block.specs.Entries.{names, is_unused, is_taken_back, is_rolled_back, number_of, committed, state_of_outcome};
 
 use seg_base::{Scn, TxnId, UndoAddr};

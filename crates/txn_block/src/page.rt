@@ -1,5 +1,5 @@
 // The bytes of an entry and of the numbers before the entries.
-ghost use Rattle.seg_words.specs.Std.{◌≡◌, ◌<◌, ◌^◌};
+ghost use Rattle.std.specs.Prelude.{◌≡◌, ◌<◌, ◌^◌};
 ghost use Rattle.txn_block.specs.EntryBytes.{outcome_code, number_or_zero, used_bytes, entry_bytes, entry_told, entry_in, IsEntry};
 ghost use Rattle.txn_block.specs.Pages.{block_or_zero, block_from, number_bytes};
 

@@ -1,5 +1,5 @@
 // Searches among the entries.
-ghost use Rattle.seg_words.specs.Std.{◌≡◌, ◌<◌, ◌≤◌, length, find, position, IfSome, option_copied};
+ghost use Rattle.std.specs.Prelude.{◌≡◌, ◌<◌, ◌≤◌, length, find, position, IfSome, option_copied};
 ghost use Rattle.txn_block.specs.Entries.{names, is_unused, is_rolled_back};
 ghost use Rattle.txn_block.specs.Tables.{IsFirst, LeastBelow, TakesNext, lesser};
 

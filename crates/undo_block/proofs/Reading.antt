@@ -1,5 +1,5 @@
 -- A loop that reads parts.
-use Rattle.seg_words.proofs.Std.{◌≡◌, ℕ, zero, suc, ◌+◌, ◌-◌, ◌<◌, ◌≤◌, List, [], ◌∷◌, ◌++◌, length, take, drop, refl, sym, ap, ◌∙◌, append_assoc, arith, true, nat_lt, lt-ltb, append-nil}
+use Rattle.std.proofs.Common.{◌≡◌, ℕ, zero, suc, ◌+◌, ◌-◌, ◌<◌, ◌≤◌, List, [], ◌∷◌, ◌++◌, length, take, drop, refl, sym, ap, ◌∙◌, append_assoc, arith, true, nat_lt, lt-ltb, append-nil}
 use Rattle.seg_words.specs.Types.{BLOCK_ROOM, UNDO_PART_SIZE}
 use Rattle.undo_block.specs.Types.{Part, part_size, used_by, len_in, part_from, parts_in}
 use Rattle.undo_block.specs.Again.{next_parts}

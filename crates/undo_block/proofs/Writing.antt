@@ -1,5 +1,5 @@
 -- Parts written one behind the other, and the page in three pieces.
-use Rattle.seg_words.proofs.Std.{◌≡◌, ℕ, List, ◌++◌, ap, ◌∙◌, append_assoc, flat_map}
+use Rattle.std.proofs.Common.{◌≡◌, ℕ, List, ◌++◌, ap, ◌∙◌, append_assoc, flat_map}
 use Rattle.seg_words.specs.Types.{slot_bytes}
 use Rattle.page_bytes.specs.Types.{head_bytes, page_of}
 use Rattle.undo_block.specs.Types.{Part, UndoPage, part_head, part_bytes, fields_of, spelling}

@@ -1,5 +1,5 @@
 -- Parts that fit in a block, and what adding some answers.
-use Rattle.seg_words.specs.Std.{◌≡◌, ℕ, ◌+◌, ◌-◌, ◌<◌, ◌≤◌, min, List, ◌++◌, length, Result, Ok, Err}
+use Rattle.std.specs.Prelude.{◌≡◌, ℕ, ◌+◌, ◌-◌, ◌<◌, ◌≤◌, min, List, ◌++◌, length, Result, Ok, Err}
 use Rattle.seg_words.specs.Types.{BLOCK_ROOM}
 use Rattle.undo_block.specs.declared.part.Part.{Part}
 use Rattle.undo_block.specs.declared.fault.UndoFault.{UndoFault}

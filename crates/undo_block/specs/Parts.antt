@@ -1,6 +1,6 @@
 -- Parts of undo: the old image of one slot, with what leads to the transaction's undo before it. Oracle Database Concepts,
 -- "Undo Segments"; the sizes and the address of a part are this engine's own.
-use Rattle.seg_words.specs.Std.{ℕ, ◌+◌, ◌==◌, min, Bool, not, ◌&&◌, if◌then◌else◌, List, [], ◌∷◌, length, Option, Some, None, sum_by}
+use Rattle.std.specs.Prelude.{ℕ, ◌+◌, ◌==◌, min, Bool, not, ◌&&◌, if◌then◌else◌, List, [], ◌∷◌, length, Option, Some, None, sum_by}
 use Rattle.seg_words.specs.Types.{UNDO_PART_SIZE}
 use Rattle.undo_block.specs.declared.part.Part.{Part}
 

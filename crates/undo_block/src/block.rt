@@ -1,5 +1,5 @@
 // An undo block.
-ghost use Rattle.seg_words.specs.Std.{◌≡◌, ◌≤◌, ◌<◌, [], length, slice_get, Some, IfOk, IfSome, option_map};
+ghost use Rattle.std.specs.Prelude.{◌≡◌, ◌≤◌, ◌<◌, [], length, slice_get, Some, IfOk, IfSome, option_map};
 ghost use Rattle.undo_block.specs.Parts.{used_by, holder_of, is_held, lesser, with_part};
 ghost use Rattle.undo_block.specs.Held.{AppendsAt};
 ghost use Rattle.undo_block.specs.UndoPage.{UndoPage, Decodes, IsReadAs, IsUndoPage, spelling};

@@ -1,5 +1,5 @@
 // Why a call on an undo block is refused.
-ghost use Rattle.seg_words.specs.Std.{◌≡◌};
+ghost use Rattle.std.specs.Prelude.{◌≡◌};
 ghost use Rattle.undo_block.specs.declared.fault.UndoFault.TheVariants as faults;
 
 use page_bytes::PageFault;
@@ -44,7 +44,7 @@ impl<T: Drop> From<AllocFailed<T>> for UndoFault {
 }
 
 impl From<PageFault> for UndoFault {
-    ghost use Rattle.seg_words.specs.Std.{◌≡◌};
+    ghost use Rattle.std.specs.Prelude.{◌≡◌};
     ghost use Rattle.undo_block.specs.Faults.{fault_of};
 
     ghost from_gives = { λ f e. e ≡ fault_of f };

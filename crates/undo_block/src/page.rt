@@ -1,5 +1,5 @@
 // The page of an undo block.
-ghost use Rattle.seg_words.specs.Std.{◌≡◌, ◌≤◌, ◌<◌, ◌^◌, ◌+◌, ◌++◌, List, ℕ, length, take, drop, IfOk, flat_map};
+ghost use Rattle.std.specs.Prelude.{◌≡◌, ◌≤◌, ◌<◌, ◌^◌, ◌+◌, ◌++◌, List, ℕ, length, take, drop, IfOk, flat_map};
 ghost use Rattle.seg_words.specs.Types.{slot_bytes};
 ghost use Rattle.page_bytes.specs.Types.{IsFront};
 ghost use Rattle.undo_block.specs.declared.part.Part.{Part as PartValue};

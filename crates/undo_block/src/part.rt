@@ -1,5 +1,5 @@
 // A part of undo.
-ghost use Rattle.seg_words.specs.Std.{◌≡◌, ◌+◌, ◌<◌, ◌≤◌, ◌^◌, List, ℕ, length, slice_index, IfOk};
+ghost use Rattle.std.specs.Prelude.{◌≡◌, ◌+◌, ◌<◌, ◌≤◌, ◌^◌, List, ℕ, length, slice_index, IfOk};
 ghost use Rattle.undo_block.specs.Parts.{part_size};
 
 use seg_base::{Dba, NoMemory, Slot, TxnId, UndoPlace};

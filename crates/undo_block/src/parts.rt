@@ -1,5 +1,5 @@
 // A list of parts, and the bytes that they use.
-ghost use Rattle.seg_words.specs.Std.{◌≡◌, ◌≤◌, ◌+◌, ◌++◌, ◌∷◌, [], min, length, OnErr, OnOk, IfOk};
+ghost use Rattle.std.specs.Prelude.{◌≡◌, ◌≤◌, ◌+◌, ◌++◌, ◌∷◌, [], min, length, OnErr, OnOk, IfOk};
 ghost use Rattle.undo_block.specs.Parts.{part_size, used_by};
 ghost use Rattle.undo_block.specs.Held.{Appends};
 
@@ -17,7 +17,7 @@ pub struct Parts {
 }
 
 impl Model for Parts {
-    ghost use Rattle.seg_words.specs.Std.{List};
+    ghost use Rattle.std.specs.Prelude.{List};
     ghost use Rattle.undo_block.specs.declared.part.Part.{Part};
 
     ghost Value = { List Part };

@@ -9,7 +9,7 @@ use std::test::Fail;
 struct Below(u64);
 
 impl Ended for Below {
-    ghost use Rattle.seg_words.specs.Std.{nat_lt};
+    ghost use Rattle.std.specs.Prelude.{nat_lt};
 
     ghost has_ended = { λ b t. nat_lt t b.0 };
 

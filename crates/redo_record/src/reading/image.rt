@@ -1,5 +1,5 @@
 // Images of slots, and where undo stands.
-ghost use Rattle.seg_words.specs.Std.{◌≡◌};
+ghost use Rattle.std.specs.Prelude.{◌≡◌};
 ghost use Rattle.redo_record.specs.Forms.{Reads};
 ghost use Rattle.redo_record.specs.Reading.{address_at, undo_at, place_at, link_at, kind_at, writer_at, image_at};
 

@@ -1,5 +1,5 @@
 // Records that change rows.
-ghost use Rattle.seg_words.specs.Std.{◌≡◌, ◌≤◌, IfOk, length};
+ghost use Rattle.std.specs.Prelude.{◌≡◌, ◌≤◌, IfOk, length};
 ghost use Rattle.redo_record.specs.Forms.{Reads, ReadsItems, many};
 ghost use Rattle.redo_record.specs.Reading.{row_part_at, back_part_at, part_count_at, row_parts_at, back_parts_at, row_body_at, back_at, move_at};
 

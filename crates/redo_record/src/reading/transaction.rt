@@ -1,5 +1,5 @@
 // Records that begin and end transactions, and what goes with them.
-ghost use Rattle.seg_words.specs.Std.{◌≡◌, IfOk, length};
+ghost use Rattle.std.specs.Prelude.{◌≡◌, IfOk, length};
 ghost use Rattle.redo_record.specs.Forms.{Reads, ReadsItems, many};
 ghost use Rattle.redo_record.specs.Reading.{begin_at, reuse_at, commit_at, ended_at, ended_transaction_at, ended_transactions_at, clean_at};
 

@@ -1,5 +1,5 @@
 // Records that change rows.
-ghost use Rattle.seg_words.specs.Std.{◌≡◌, ◌∷◌, [], ◌++◌, length, Option, List, flat_map};
+ghost use Rattle.std.specs.Prelude.{◌≡◌, ◌∷◌, [], ◌++◌, length, Option, List, flat_map};
 ghost use Rattle.redo_record.specs.Adding.{Adds};
 ghost use Rattle.redo_record.specs.Spelling.{address, entry_code, place_or_zeros, place_bytes, image, part_head, row_part, back_part, row_head, row_parts, back_parts, row_body, back, moved};
 

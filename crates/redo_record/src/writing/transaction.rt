@@ -1,5 +1,5 @@
 // Records that begin and end transactions, and what goes with them.
-ghost use Rattle.seg_words.specs.Std.{◌≡◌, ◌∷◌, ◌++◌, length, flat_map};
+ghost use Rattle.std.specs.Prelude.{◌≡◌, ◌∷◌, ◌++◌, length, flat_map};
 ghost use Rattle.redo_record.specs.Adding.{Adds};
 ghost use Rattle.redo_record.specs.Spelling.{begin, reuse, commit, ended, ended_transaction, clean};
 

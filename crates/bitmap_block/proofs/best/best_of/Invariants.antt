@@ -1,4 +1,4 @@
-use Rattle.seg_words.proofs.Std.{◌≡◌, take}
+use Rattle.std.proofs.Common.{◌≡◌, take}
 use Rattle.bitmap_block.specs.Types.{best_of}
 use Rattle.bitmap_block.proofs.best.best_of.Given as goal
 

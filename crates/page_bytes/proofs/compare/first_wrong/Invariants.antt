@@ -1,4 +1,5 @@
-use Rattle.seg_words.proofs.Std.{◌≡◌, ◌≤◌, ◌+◌, ◌-◌, eqb, length, drop, common_prefix_len}
+use Rattle.std.proofs.Common.{◌≡◌, ◌≤◌, ◌+◌, ◌-◌, eqb, length, drop}
+use Rattle.seg_words.proofs.Std.{common_prefix_len}
 use Rattle.page_bytes.proofs.compare.first_wrong.Given as goal
 
 abbrev pub invariant-loop-at : goal.invariant-loop-at

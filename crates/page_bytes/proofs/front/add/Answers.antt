@@ -1,4 +1,4 @@
-use Rattle.seg_words.proofs.Std.{◌+◌, ◌-◌, length, arith, refl}
+use Rattle.std.proofs.Common.{◌+◌, ◌-◌, length, arith, refl}
 use Rattle.page_bytes.proofs.Fronts.{added}
 use Rattle.page_bytes.proofs.front.add.Goals as goal
 

@@ -1,4 +1,4 @@
-use Rattle.seg_words.proofs.Std.{arith}
+use Rattle.std.proofs.Common.{arith}
 use Rattle.page_bytes.proofs.Fronts.{room_next}
 use Rattle.page_bytes.proofs.front.add_all.Goals as goal
 

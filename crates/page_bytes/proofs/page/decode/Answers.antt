@@ -1,4 +1,4 @@
-use Rattle.seg_words.proofs.Std.{arith}
+use Rattle.std.proofs.Common.{arith}
 use Rattle.page_bytes.proofs.Alike.{spells_none}
 use Rattle.page_bytes.proofs.page.decode.Goals as goal
 

@@ -1,4 +1,4 @@
-use Rattle.seg_words.proofs.Std.{take, drop, ap, ◌∙◌}
+use Rattle.std.proofs.Common.{take, drop, ap, ◌∙◌}
 use Rattle.page_bytes.specs.Types.{pieces_in}
 use Rattle.page_bytes.proofs.PiecesIn.{one_read, all_read}
 use Rattle.page_bytes.proofs.piece.read_all.Goals as goal

@@ -1,4 +1,4 @@
-use Rattle.seg_words.proofs.Std.{◌+◌}
+use Rattle.std.proofs.Common.{◌+◌}
 use Rattle.redo_record.proofs.Decoded.{stands_at, stands_once}
 use Rattle.redo_record.proofs.codec.decode.Goals as goal
 

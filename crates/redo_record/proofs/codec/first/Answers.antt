@@ -1,4 +1,4 @@
-use Rattle.seg_words.proofs.Std.{arith}
+use Rattle.std.proofs.Common.{arith}
 use Rattle.std.proofs.lemmas.Result.{err_from_is_err_and}
 use Rattle.redo_record.proofs.Decoded.{fails_in_front, rest_is_short, read_in_front}
 use Rattle.redo_record.proofs.codec.first.Goals as goal

@@ -1,4 +1,4 @@
-use Rattle.seg_words.proofs.Std.{◌≡◌, take}
+use Rattle.std.proofs.Common.{◌≡◌, take}
 use Rattle.row_block.specs.Types.{txns_of}
 use Rattle.row_block.proofs.block.txns_of.Given as goal
 

@@ -1,4 +1,4 @@
-use Rattle.seg_words.proofs.Std.{◌≡◌, ◌++◌, map, take, drop}
+use Rattle.std.proofs.Common.{◌≡◌, ◌++◌, map, take, drop}
 use Rattle.seg_words.specs.Types.{clean_slot}
 use Rattle.row_block.proofs.clean.clean_each.Given as goal
 

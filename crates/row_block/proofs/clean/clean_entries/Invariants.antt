@@ -1,4 +1,4 @@
-use Rattle.seg_words.proofs.Std.{◌≡◌, ◌++◌, map, take, drop}
+use Rattle.std.proofs.Common.{◌≡◌, ◌++◌, map, take, drop}
 use Rattle.seg_words.specs.Types.{clean_entry}
 use Rattle.row_block.proofs.clean.clean_entries.Given as goal
 

@@ -1,4 +1,4 @@
-use Rattle.seg_words.proofs.Std.{arith, ap, List, ℕ, length}
+use Rattle.std.proofs.Common.{arith, ap, List, ℕ, length}
 use Rattle.page_bytes.proofs.Fronts.{room_next}
 use Rattle.row_block.specs.Types.{row_bytes}
 use Rattle.row_block.proofs.page.add_rows.Goals as goal

@@ -1,4 +1,4 @@
-use Rattle.seg_words.proofs.Std.{arith, ap, List, ℕ, length}
+use Rattle.std.proofs.Common.{arith, ap, List, ℕ, length}
 use Rattle.seg_words.specs.Types.{slot_bytes}
 use Rattle.page_bytes.proofs.Fronts.{room_next, add_made}
 use Rattle.row_block.proofs.page.add_slots.Goals as goal

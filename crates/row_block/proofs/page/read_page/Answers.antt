@@ -1,4 +1,4 @@
-use Rattle.seg_words.proofs.Std.{arith, ap, ◌∙◌, ◌≡◌, List, ℕ, length}
+use Rattle.std.proofs.Common.{arith, ap, ◌∙◌, ◌≡◌, List, ℕ, length}
 use Rattle.seg_words.specs.Types.{ListEntry, LIST_ENTRY_SIZE}
 use Rattle.page_bytes.specs.Types.{entry_from, pieces_in}
 use Rattle.page_bytes.proofs.PiecesIn.{length-pieces_in}

@@ -1,4 +1,4 @@
-use Rattle.seg_words.proofs.Std.{arith, ap, ◌≡◌, ◌++◌, List, ℕ, length, [], flat_map}
+use Rattle.std.proofs.Common.{arith, ap, ◌≡◌, ◌++◌, List, ℕ, length, [], flat_map}
 use Rattle.seg_words.specs.Types.{slot_bytes, PAGE_HEAD_SIZE}
 use Rattle.page_bytes.specs.Types.{entry_bytes}
 use Rattle.row_block.specs.Again.{length-entries, length-slots, laid_sizes}

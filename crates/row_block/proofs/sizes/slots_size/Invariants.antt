@@ -1,4 +1,4 @@
-use Rattle.seg_words.proofs.Std.{◌≡◌, ◌≤◌, ◌*◌, take, sum_by}
+use Rattle.std.proofs.Common.{◌≡◌, ◌≤◌, ◌*◌, take, sum_by}
 use Rattle.seg_words.specs.Types.{slot_size}
 use Rattle.row_block.proofs.sizes.slots_size.Given as goal
 

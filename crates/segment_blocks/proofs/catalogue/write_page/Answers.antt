@@ -1,4 +1,4 @@
-use Rattle.seg_words.proofs.Std.{◌≡◌, ℕ, List, [], length, ap, arith}
+use Rattle.std.proofs.Common.{◌≡◌, ℕ, List, [], length, ap, arith}
 use Rattle.page_bytes.proofs.PiecesIn.{length-spelled}
 use Rattle.segment_blocks.specs.Types.{spelled_entry}
 use Rattle.segment_blocks.specs.CatalogueAgain.{length-spelled_entry}

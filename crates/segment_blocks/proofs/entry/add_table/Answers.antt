@@ -1,4 +1,4 @@
-use Rattle.seg_words.proofs.Std.{◌++◌, ◌∷◌, [], length, List, ℕ, subst}
+use Rattle.std.proofs.Common.{◌++◌, ◌∷◌, [], length, List, ℕ, subst}
 use Rattle.page_bytes.specs.Types.{IsFront}
 use Rattle.segment_blocks.proofs.Forms.{table_added}
 use Rattle.segment_blocks.proofs.entry.add_table.Goals as goal

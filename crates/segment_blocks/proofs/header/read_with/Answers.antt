@@ -1,4 +1,4 @@
-use Rattle.seg_words.proofs.Std.{◌≡◌, ℕ, List, length, ap, ◌∙◌, arith}
+use Rattle.std.proofs.Common.{◌≡◌, ℕ, List, length, ap, ◌∙◌, arith}
 use Rattle.page_bytes.proofs.PiecesIn.{length-pieces_in}
 use Rattle.segment_blocks.specs.Types.{extent_in}
 use Rattle.segment_blocks.proofs.header.read_with.Goals as goal

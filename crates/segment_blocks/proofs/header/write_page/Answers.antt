@@ -1,4 +1,4 @@
-use Rattle.seg_words.proofs.Std.{◌≡◌, ℕ, List, [], ◌++◌, length, refl, sym, ap, ◌∙◌, arith, flat_map}
+use Rattle.std.proofs.Common.{◌≡◌, ℕ, List, [], ◌++◌, length, refl, sym, ap, ◌∙◌, arith, flat_map}
 use Rattle.page_bytes.specs.Types.{head_bytes, page_of}
 use Rattle.page_bytes.proofs.PiecesIn.{length-spelled}
 use Rattle.segment_blocks.specs.Types.{extent_bytes}

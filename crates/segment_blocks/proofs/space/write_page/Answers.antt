@@ -1,4 +1,4 @@
-use Rattle.seg_words.proofs.Std.{[], ◌++◌}
+use Rattle.std.proofs.Common.{[], ◌++◌}
 use Rattle.segment_blocks.proofs.Forms.{space_written}
 use Rattle.segment_blocks.proofs.space.write_page.Goals as goal
 

@@ -1,4 +1,4 @@
-use Rattle.seg_words.proofs.Std.{arith, flat_map}
+use Rattle.std.proofs.Common.{arith, flat_map}
 use Rattle.txn_block.specs.Types.{entry_bytes}
 use Rattle.txn_block.proofs.PageForms.{entries_fit_page, table_written}
 use Rattle.txn_block.proofs.block.write_table.Goals as goal

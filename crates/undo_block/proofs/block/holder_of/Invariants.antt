@@ -1,4 +1,4 @@
-use Rattle.seg_words.proofs.Std.{◌≡◌, ◌≤◌, length, drop}
+use Rattle.std.proofs.Common.{◌≡◌, ◌≤◌, length, drop}
 use Rattle.undo_block.specs.Types.{holder_of}
 use Rattle.undo_block.proofs.block.holder_of.Given as goal
 

@@ -1,4 +1,4 @@
-use Rattle.seg_words.proofs.Std.{◌++◌, List, ℕ, subst}
+use Rattle.std.proofs.Common.{◌++◌, List, ℕ, subst}
 use Rattle.page_bytes.specs.Types.{IsFront}
 use Rattle.undo_block.proofs.Writing.{part_added}
 use Rattle.undo_block.proofs.page.add_part.Goals as goal

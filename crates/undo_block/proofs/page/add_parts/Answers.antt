@@ -1,4 +1,4 @@
-use Rattle.seg_words.proofs.Std.{◌≡◌, ◌+◌, ◌++◌, List, ℕ, length, subst, arith, flat_map}
+use Rattle.std.proofs.Common.{◌≡◌, ◌+◌, ◌++◌, List, ℕ, length, subst, arith, flat_map}
 use Rattle.page_bytes.specs.Types.{IsFront}
 use Rattle.page_bytes.proofs.Fronts.{room_next, add_next, all_added}
 use Rattle.undo_block.specs.Types.{part_bytes}

@@ -1,5 +1,5 @@
 use Rattle.undo_block.specs.Types.{parts_in, part_size}
-use Rattle.seg_words.proofs.Std.{ap, ◌∙◌}
+use Rattle.std.proofs.Common.{ap, ◌∙◌}
 use Rattle.undo_block.proofs.Reading.{one_read, short_read, all_read}
 use Rattle.undo_block.proofs.page.read_parts.Goals as goal
 

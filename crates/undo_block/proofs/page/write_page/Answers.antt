@@ -1,4 +1,4 @@
-use Rattle.seg_words.proofs.Std.{[], ◌++◌}
+use Rattle.std.proofs.Common.{[], ◌++◌}
 use Rattle.undo_block.proofs.Writing.{spelled}
 use Rattle.undo_block.proofs.page.write_page.Goals as goal
 

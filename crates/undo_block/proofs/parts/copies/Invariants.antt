@@ -1,4 +1,4 @@
-use Rattle.seg_words.proofs.Std.{◌≡◌, take}
+use Rattle.std.proofs.Common.{◌≡◌, take}
 use Rattle.undo_block.proofs.parts.copies.Given as goal
 
 abbrev pub invariant-loop-part : goal.invariant-loop-part

@@ -1,4 +1,4 @@
-use Rattle.seg_words.proofs.Std.{◌≡◌, min, take}
+use Rattle.std.proofs.Common.{◌≡◌, min, take}
 use Rattle.undo_block.specs.Types.{used_by}
 use Rattle.undo_block.proofs.parts.need_of.Given as goal
 

@@ -1,4 +1,4 @@
-use Rattle.seg_words.proofs.Std.{ap, ◌∙◌}
+use Rattle.std.proofs.Common.{ap, ◌∙◌}
 use Rattle.bitmap_block.specs.Types.{codes_in}
 use Rattle.bitmap_block.proofs.Forms.{summary_read}
 use Rattle.bitmap_block.proofs.second_level.L2PageForm.read.Goals as goal

@@ -1,4 +1,4 @@
-use Rattle.seg_words.proofs.Std.{w32}
+use Rattle.std.proofs.Common.{w32}
 use Rattle.redo_record.specs.Types.{number}
 use Rattle.redo_record.proofs.Loop.{goes_on}
 use Rattle.redo_record.proofs.reading.space.extents_of.Goals as goal

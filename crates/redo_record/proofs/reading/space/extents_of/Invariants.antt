@@ -1,4 +1,4 @@
-use Rattle.seg_words.proofs.Std.{w32}
+use Rattle.std.proofs.Common.{w32}
 use Rattle.redo_record.specs.Types.{number}
 use Rattle.redo_record.proofs.Loop.{Going}
 use Rattle.redo_record.proofs.reading.space.extents_of.Given as goal

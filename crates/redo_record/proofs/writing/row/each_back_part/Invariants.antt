@@ -1,4 +1,4 @@
-use Rattle.seg_words.proofs.Std.{◌≡◌, ◌++◌, take, flat_map}
+use Rattle.std.proofs.Common.{◌≡◌, ◌++◌, take, flat_map}
 use Rattle.redo_record.specs.Types.{back_part}
 use Rattle.redo_record.proofs.writing.row.each_back_part.Given as goal
 

@@ -1,4 +1,4 @@
-use Rattle.seg_words.proofs.Std.{◌≡◌, ◌++◌, take, flat_map, w32}
+use Rattle.std.proofs.Common.{◌≡◌, ◌++◌, take, flat_map, w32}
 use Rattle.redo_record.specs.Types.{big_endian}
 use Rattle.redo_record.proofs.writing.space.numbers.Given as goal
 

@@ -1,4 +1,4 @@
-use Rattle.seg_words.proofs.Std.{arith}
+use Rattle.std.proofs.Common.{arith}
 use Rattle.row_block.proofs.Held.{can_enter_old, can_enter_new, held_page}
 use Rattle.row_block.proofs.block.RowBlock.can_enter.Goals as goal
 

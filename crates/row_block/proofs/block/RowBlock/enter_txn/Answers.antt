@@ -1,4 +1,4 @@
-use Rattle.seg_words.proofs.Std.{sym}
+use Rattle.std.proofs.Common.{sym}
 use Rattle.row_block.proofs.Held.{can_enter_for, held_page}
 use Rattle.row_block.proofs.block.RowBlock.enter_txn.Goals as goal
 

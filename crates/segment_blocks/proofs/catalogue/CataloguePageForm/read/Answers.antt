@@ -1,4 +1,4 @@
-use Rattle.seg_words.proofs.Std.{List, length, ap, ◌∙◌}
+use Rattle.std.proofs.Common.{List, length, ap, ◌∙◌}
 use Rattle.seg_words.specs.Types.{MOST_TABLES}
 use Rattle.page_bytes.proofs.PiecesIn.{length-pieces_in}
 use Rattle.segment_blocks.specs.Types.{CatalogueEntry, entry_in}

@@ -1,4 +1,4 @@
-use Rattle.seg_words.proofs.Std.{arith}
+use Rattle.std.proofs.Common.{arith}
 use Rattle.txn_block.proofs.PageForms.{has_entries, table_read}
 use Rattle.txn_block.proofs.block.TxnBlockPageForm.read.Goals as goal
 

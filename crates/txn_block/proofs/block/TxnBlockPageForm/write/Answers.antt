@@ -1,4 +1,4 @@
-use Rattle.seg_words.proofs.Std.{refl}
+use Rattle.std.proofs.Common.{refl}
 use Rattle.txn_block.specs.Types.{spelling}
 use Rattle.txn_block.proofs.block.TxnBlockPageForm.write.Goals as goal
 

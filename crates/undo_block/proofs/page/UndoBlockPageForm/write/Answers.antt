@@ -1,4 +1,4 @@
-use Rattle.seg_words.proofs.Std.{◌≡◌, ℕ, List, ap, ◌∙◌, sym}
+use Rattle.std.proofs.Common.{◌≡◌, ℕ, List, ap, ◌∙◌, sym}
 use Rattle.undo_block.specs.Types.{Part, UndoPage, fields_of, spelling}
 use Rattle.undo_block.proofs.page.UndoBlockPageForm.write.Goals as goal
 

@@ -1,6 +1,6 @@
 -- The best of one more code.
 use Rattle.std.proofs.Common.{◌≡◌, ℕ, ◌+◌, ◌<◌, ◌≤◌, max, List, [], ◌∷◌, ◌++◌, length, take, get_or, refl, ap, ◌∙◌, arith, take_all}
-use Rattle.seg_words.proofs.Std.{take_more}
+use Rattle.seg_words.proofs.Lemmas.{take_more}
 use Rattle.bitmap_block.specs.Types.{good_code, best_of}
 
 best_push : (xs : List ℕ) (c : ℕ) → best_of (xs ++ c ∷ []) ≡ max (good_code c) (best_of xs)

@@ -1,6 +1,6 @@
 -- The pages of the bitmaps, written and read part by part.
 use Rattle.std.proofs.Common.{◌≡◌, ℕ, List, [], ◌++◌, drop, refl, ap, ◌∙◌, w32, w64}
-use Rattle.seg_words.proofs.Std.{to_be_bytes}
+use Rattle.seg_words.proofs.Lemmas.{to_be_bytes}
 use Rattle.seg_words.specs.Types.{number_in}
 use Rattle.page_bytes.specs.Types.{IsFront, head_bytes, page_of}
 use Rattle.bitmap_block.specs.Types.{codes_in, ExtentMap, Summary, spelling_of_map, spelling_of_summary, map_in, summary_in}

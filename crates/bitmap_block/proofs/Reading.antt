@@ -1,6 +1,6 @@
 -- One more code is read.
 use Rattle.std.proofs.Common.{◌≡◌, ℕ, zero, suc, ◌+◌, ◌<◌, ◌≤◌, min, List, [], ◌∷◌, ◌++◌, length, map, take, set, get_or, refl, sym, ap, ◌∙◌, subst, arith, replicate, take_all}
-use Rattle.seg_words.proofs.Std.{take_more, take_more_set, map-append, get_or-replicate, length-replicate}
+use Rattle.seg_words.proofs.Lemmas.{take_more, take_more_set, map-append, get_or-replicate, length-replicate}
 use Rattle.bitmap_block.specs.Types.{codes_in, AreCodes, HasCodes}
 
 -- a loop that has read the first i codes

@@ -1,6 +1,6 @@
 -- A page of a bitmap that is spelled is read.
 use Rattle.std.proofs.Common.{◌≡◌, ℕ, suc, min, List, [], ◌∷◌, ◌++◌, length, map, drop, refl, ap, ◌∙◌, arith, replicate, ◌-◌, w32, w64}
-use Rattle.seg_words.proofs.Std.{from_be_bytes-to_be_bytes_4, from_be_bytes-to_be_bytes_8}
+use Rattle.seg_words.proofs.Lemmas.{from_be_bytes-to_be_bytes_4, from_be_bytes-to_be_bytes_8}
 use Rattle.seg_words.specs.Types.{number_in, BLOCK_SIZE}
 use Rattle.page_bytes.proofs.Fronts.{take_front}
 use Rattle.bitmap_block.specs.Codes.{AreCodes, codes_in}

@@ -1,7 +1,6 @@
 -- The pages of the three levels, as contracts see them and as they are spelled. The layout is this engine's own.
 use Rattle.std.specs.Prelude.{◌≡◌, ℕ, ◌<◌, ◌^◌, List, ◌++◌, length, drop}
-use Rattle.std.specs.Int.{w32, w64, to_be_bytes}
-use Rattle.seg_words.specs.Types.{number_in}
+use Rattle.seg_words.specs.Types.{w32, w64, to_be_bytes, number_in}
 use Rattle.page_bytes.specs.Types.{page_of, head_bytes}
 use Rattle.bitmap_block.specs.Codes.{AreCodes, codes_in}
 

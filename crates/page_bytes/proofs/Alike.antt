@@ -1,6 +1,6 @@
 -- Runs of bytes that begin alike to their end are one.
 use Rattle.std.proofs.Common.{◌≡◌, ℕ, suc, ◌+◌, ◌<◌, ◌≤◌, true, eqb, List, [], ◌∷◌, length, inl, inr, refl, sym, ap, ◌∙◌, arith, eqb-true}
-use Rattle.seg_words.proofs.Std.{common_prefix_len, cases_Bool, nat_tests}
+use Rattle.seg_words.proofs.Lemmas.{common_prefix_len, cases_Bool, nat_tests}
 
 pub all_alike : (a b : List ℕ) → length a ≡ length b → length a ≤ common_prefix_len eqb a b → a ≡ b
 all_alike [] [] e h = refl

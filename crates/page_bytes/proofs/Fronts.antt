@@ -1,6 +1,6 @@
 -- Bytes put behind the front of a page.
 use Rattle.std.proofs.Common.{◌≡◌, ℕ, ◌+◌, ◌-◌, ◌≤◌, ◌<◌, get_or, List, [], ◌++◌, length, take, drop, refl, sym, ap, ◌∙◌, append_assoc, arith, replicate, take_all, length-append, append-nil, flat_map}
-use Rattle.seg_words.proofs.Std.{take_more, flat_map_more, drop-replicate, drop-append_seam, common_steps, length-flat_map-take}
+use Rattle.seg_words.proofs.Lemmas.{take_more, flat_map_more, drop-replicate, drop-append_seam, common_steps, length-flat_map-take}
 use Rattle.seg_words.specs.Types.{BLOCK_SIZE}
 use Rattle.page_bytes.specs.Types.{page_of, IsFront}
 use borrow.Rule.Slice.PartMut.{put_mid}

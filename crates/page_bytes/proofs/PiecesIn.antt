@@ -1,6 +1,6 @@
 -- Pieces read one behind the other.
 use Rattle.std.proofs.Common.{◌≡◌, ℕ, zero, suc, ◌+◌, ◌-◌, ◌*◌, ◌<◌, ◌≤◌, List, [], ◌∷◌, ◌++◌, length, take, drop, refl, sym, ap, ◌∙◌, append_assoc, arith, flat_map, append-nil, length-append, length-drop}
-use Rattle.seg_words.proofs.Std.{AllByRecursion, flat_map-cons}
+use Rattle.seg_words.proofs.Lemmas.{AllByRecursion, flat_map-cons}
 use Rattle.page_bytes.specs.Types.{pieces_in}
 use Rattle.page_bytes.proofs.Fronts.{take_front, drop_front}
 

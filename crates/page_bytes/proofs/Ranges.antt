@@ -1,6 +1,6 @@
 -- What bytes read as is in the range of its field.
 use Rattle.std.proofs.Common.{◌≡◌, ℕ, zero, suc, ◌<◌, ◌≤◌, ◌^◌, List, [], ◌∷◌, length, get_or, take, drop, refl, arith, w16, w32, w64}
-use Rattle.seg_words.proofs.Std.{from_be_bytes, AllByRecursion}
+use Rattle.seg_words.proofs.Lemmas.{from_be_bytes, AllByRecursion}
 use Rattle.seg_words.specs.Types.{Kind, Empty, Row, Head, Body, Writer, By, At, number_in, writer_number}
 use Rattle.page_bytes.specs.Types.{SlotFields, pieces_in, fields_in, kind_as, writer_as, undo_as, link_as, len_as, room_as, row_len, slot_as, UndoFits, LinkFits, IsSlot, entry_from, IsListEntry}
 

@@ -1,6 +1,6 @@
 -- A slot that is spelled is read.
 use Rattle.std.proofs.Common.{◌≡◌, ℕ, zero, suc, ◌<◌, ◌^◌, length, Option, Some, None, refl, arith, w16, w32, w64}
-use Rattle.seg_words.proofs.Std.{from_be_bytes-to_be_bytes_2, from_be_bytes-to_be_bytes_4, from_be_bytes-to_be_bytes_8}
+use Rattle.seg_words.proofs.Lemmas.{from_be_bytes-to_be_bytes_2, from_be_bytes-to_be_bytes_4, from_be_bytes-to_be_bytes_8}
 use Rattle.seg_words.specs.Types.{Slot, Kind, Empty, Row, Head, Body, Writer, By, At, UndoAddr, Rowid, number_in, kind_code, writer_tag, writer_number, undo_or_zeros, link_or_zeros, slot_bytes}
 use Rattle.page_bytes.specs.Types.{SlotFields, fields_in, kind_as, writer_as, undo_as, link_as, row_len, slot_as, UndoFits, LinkFits, IsSlot}
 

@@ -1,7 +1,6 @@
 -- The 24 bytes of an entry of a block's transaction list.
 use Rattle.std.specs.Prelude.{ℕ, ◌<◌, ◌^◌, List, ◌++◌}
-use Rattle.std.specs.Int.{w64, to_be_bytes}
-use Rattle.seg_words.specs.Types.{ListEntry, number_in}
+use Rattle.seg_words.specs.Types.{w64, to_be_bytes, ListEntry, number_in}
 
 -- the transaction, its commit number, 8 zeros
 abbrev pub entry_bytes : ListEntry → List ℕ

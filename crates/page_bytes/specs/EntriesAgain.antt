@@ -1,6 +1,6 @@
 -- A list entry that is spelled is read.
 use Rattle.std.proofs.Common.{◌≡◌, length, refl, w64}
-use Rattle.seg_words.proofs.Std.{from_be_bytes-to_be_bytes_8}
+use Rattle.seg_words.proofs.Lemmas.{from_be_bytes-to_be_bytes_8}
 use Rattle.seg_words.specs.Types.{ListEntry, number_in}
 use Rattle.page_bytes.specs.Entries.{entry_bytes, entry_from, IsListEntry}
 

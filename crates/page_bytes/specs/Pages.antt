@@ -1,8 +1,6 @@
 -- The pages of the data file, 4,096 bytes each: a front and zeros to the end. The layout is this engine's own.
 use Rattle.std.specs.Prelude.{◌≡◌, ℕ, ◌-◌, ◌<◌, ◌==◌, List, ◌∷◌, ◌++◌, length, take, drop, replicate, Result, Ok, Err}
-use Rattle.std.specs.Int.{w32, w64, to_be_bytes}
-use Rattle.std.specs.List.{common_prefix_len}
-use Rattle.seg_words.specs.Types.{BLOCK_SIZE}
+use Rattle.seg_words.specs.Types.{w32, w64, to_be_bytes, common_prefix_len, BLOCK_SIZE}
 use Rattle.page_bytes.specs.declared.fault.PageFault.{PageFault}
 use Rattle.page_bytes.specs.declared.fault.PageFault.TheVariants.{BadPage, NoMemory}
 

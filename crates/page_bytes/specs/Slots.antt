@@ -1,7 +1,6 @@
 -- What the 40 bytes of a slot read as. The row of a slot stands elsewhere.
 use Rattle.std.specs.Prelude.{◌≡◌, ℕ, zero, suc, ◌<◌, ◌^◌, List, length, max, slice_index, Option, Some, None}
-use Rattle.std.specs.Int.{w16, w32, w64}
-use Rattle.seg_words.specs.Types.{Slot, UndoAddr, Rowid, Kind, Empty, Row, Head, Body, Writer, By, At, number_in, writer_number}
+use Rattle.seg_words.specs.Types.{w16, w32, w64, Slot, UndoAddr, Rowid, Kind, Empty, Row, Head, Body, Writer, By, At, number_in, writer_number}
 use Rattle.page_bytes.specs.declared.slot.SlotFields.{SlotFields}
 
 -- the fields as they stand in 40 bytes

@@ -1,7 +1,6 @@
 // Numbers in the bytes of a page, and what each page begins with.
 ghost use Rattle.std.specs.Prelude.{◌≡◌, ◌≤◌, ◌<◌, ◌^◌, ◌+◌, length, take, drop};
-ghost use Rattle.std.specs.Int.{w16, w32, w64};
-ghost use Rattle.seg_words.specs.Types.{number_in};
+ghost use Rattle.seg_words.specs.Types.{w16, w32, w64, number_in};
 ghost use Rattle.page_bytes.specs.Pages.{head_bytes};
 
 use seg_base::{Dba, Lsn, PAGE_HEAD_SIZE, put_at};

@@ -1,6 +1,6 @@
 -- A block as a record of lists gives each slot's image and each list entry.
 use Rattle.std.proofs.Common.{◌≡◌, ℕ, zero, suc, max, cond, eqb, List, [], ◌∷◌, length, get_or, map, inl, inr, Option, Some, None, refl, ap, ◌∙◌}
-use Rattle.seg_words.proofs.Std.{cases_Bool, length-map}
+use Rattle.seg_words.proofs.Lemmas.{cases_Bool, length-map}
 use Rattle.seg_words.specs.Types.{Slot, ListEntry, Writer, By, At, new_slot, new_entry, number_of, entry_as_told, clean_slot, clean_entry}
 use Rattle.seg_base.proofs.Puts.{get_or-put, length-put}
 use Rattle.redo_model.specs.Records.{Record, RowPart}

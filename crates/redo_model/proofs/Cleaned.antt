@@ -1,6 +1,6 @@
 -- A Clean that names one transaction, where a test that computes says that the block names no other.
 use Rattle.std.proofs.Common.{◌≡◌, ◌⊎◌, ℕ, Bool, true, false, ◌&&◌, ◌||◌, eqb, List, [], ◌∷◌, Option, Some, None, sym, ◌∙◌, ap, subst, inl, inr, eqb-true, true≢false, eq-eqb}
-use Rattle.seg_words.proofs.Std.{or_cases, cases_Bool, cond-true, cond-false, and_parts}
+use Rattle.seg_words.proofs.Lemmas.{or_cases, cases_Bool, cond-true, cond-false, and_parts}
 use Rattle.seg_words.specs.Types.{Shape, Slot, ListEntry, Writer, By, At}
 use Rattle.redo_model.specs.Records.{Record}
 use Rattle.redo_model.specs.Model.{has_ended, is_by, block_of, IsRowBlock, slots_name, entries_name, is_named_in, stated_number, Names, CleanAllowed}

@@ -1,6 +1,6 @@
 -- The small runs are lawful: each of the nineteen kinds is allowed where it stands in them.
 use Rattle.std.proofs.Common.{◌≡◌, ℕ, ◌<◌, ◌≤◌, Bool, true, false, List, [], drop, refl, sym, arith, lit<, lit≤, true≢false}
-use Rattle.seg_words.proofs.Std.{agree_below, agree_below_at}
+use Rattle.seg_words.proofs.Lemmas.{agree_below, agree_below_at}
 use Rattle.redo_model.specs.Records.{Record}
 use Rattle.redo_model.specs.Model.{control_number, IsTable, table_count, IsLeastFree, is_free_extent, TakesEntry, is_unused, entry_state, AreAllowed, IsLawful}
 use Rattle.redo_model.specs.AllowedTransactions.{takes_unused, Unused}

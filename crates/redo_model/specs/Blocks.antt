@@ -2,8 +2,7 @@
 -- takes. Oracle Database Concepts, "Data Block Format" and "Percentage of Free Space in Data Blocks"; the sizes are this
 -- engine's own.
 use Rattle.std.specs.Prelude.{◌≡◌, ℕ, Bool, true, cond, eqb, List, [], ◌∷◌, map, Option, Some, None}
-use Rattle.std.specs.List.{list_all}
-use Rattle.seg_words.specs.Types.{Class, Writer, By, At, Slot, ListEntry, Taker, Block, new_slot, new_entry, put, clean_slot, clean_entry, used_of as used_by, free_of as free_by, class_of_block as class_by, is_reusable, takes, fits}
+use Rattle.seg_words.specs.Types.{list_all, Class, Writer, By, At, Slot, ListEntry, Taker, Block, new_slot, new_entry, put, clean_slot, clean_entry, used_of as used_by, free_of as free_by, class_of_block as class_by, is_reusable, takes, fits}
 use Rattle.redo_model.specs.Records.{Record, RowPart}
 use Rattle.redo_model.specs.Effects.{Effect, Still, Formats, Adds, TakesBack, Cleans, effect_of, Placed, written, restored}
 use Rattle.redo_model.specs.Transactions.{ended_in}

@@ -2,8 +2,7 @@
 -- Concepts, "Logical Storage Structures": a segment is a set of extents; blocks under the low high water mark are
 -- formatted, between the marks either, above the high one none. Which blocks are data is this engine's own.
 use Rattle.std.specs.Prelude.{◌≡◌, ℕ, zero, suc, ◌+◌, ◌-◌, ◌≤◌, Bool, true, false, cond, not, ◌&&◌, ◌||◌, eqb, ltb, leb, List, [], ◌∷◌, ◌++◌, length, take, Option, Some, None, Contains, ◌*◌}
-use Rattle.std.specs.List.{list_all, position_or_len}
-use Rattle.seg_words.specs.Types.{Shape, first_block, is_extent, head_blocks, MOST_TABLES, EXTENTS_OF_L2}
+use Rattle.seg_words.specs.Types.{list_all, position_or_len, Shape, first_block, is_extent, head_blocks, MOST_TABLES, EXTENTS_OF_L2}
 use Rattle.redo_model.specs.Records.{Record, Table, Movement, Extend, FormatBlock, Advance, Lower}
 use Rattle.redo_model.specs.Blocks.{is_vacant_block}
 

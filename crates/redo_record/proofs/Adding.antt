@@ -1,6 +1,6 @@
 -- What was there stays in front.
 use Rattle.std.proofs.Common.{◌≡◌, ℕ, List, [], ◌++◌, length, take, sym, ap, ◌∙◌, append_assoc, append-nil}
-use Rattle.seg_words.proofs.Std.{take-append_seam}
+use Rattle.seg_words.proofs.Lemmas.{take-append_seam}
 use Rattle.seg_words.specs.Types.{Slot, slot_bytes}
 use Rattle.redo_record.specs.Types.{image, Begins}
 

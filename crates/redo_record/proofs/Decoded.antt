@@ -1,6 +1,6 @@
 -- What stands at a place is read there.
 use Rattle.std.proofs.Common.{◌≡◌, ℕ, ◌+◌, ◌-◌, ◌≤◌, List, [], ◌∷◌, ◌++◌, length, drop, Option, Some, None, Err, refl, sym, ap, ◌∙◌, arith, drop_at, drop-drop, length-append}
-use Rattle.seg_words.proofs.Std.{flat_map-cons}
+use Rattle.seg_words.proofs.Lemmas.{flat_map-cons}
 use Rattle.redo_record.specs.Types.{Record, spelling, HasSpelling, record_at, ReadFault, Reads, StandsAt, StandsInFront, IsFirst, payload, HaveSpellings}
 use Rattle.redo_record.proofs.Laws.{IsBytes}
 use Rattle.redo_record.proofs.Records.{record_spells, one_spelling}

@@ -1,6 +1,6 @@
 -- The forms of the fields of a record.
 use Rattle.std.proofs.Common.{◌≡◌, ℕ, zero, suc, ◌^◌, ◌<◌, ◌≤◌, Bool, true, false, cond, eqb, leb, ◌&&◌, List, [], ◌∷◌, ◌++◌, length, Option, Some, None, refl, sym, ap, subst, arith, inl, inr, w32, w64, eqb-true, ne_eqb, leb-true, le-leb}
-use Rattle.seg_words.proofs.Std.{cases_Bool, eqb-false}
+use Rattle.seg_words.proofs.Lemmas.{cases_Bool, eqb-false}
 use Rattle.seg_words.specs.Types.{Slot, Kind, Empty, Row, Head, Body, Writer, By, At, UndoAddr, Rowid, UndoPlace, kind_code, kind_from, writer_tag, writer_number, writer_from, undo_or_zeros, link_or_zeros, MOST_TABLES}
 use Rattle.redo_record.specs.Types.{big_endian, address, flag, entry_code, block_or_zero, place_or_zeros, place_bytes, image, IsTableNumber, IsAddress, IsUndo, IsPlace, IsLink, IsBlock, IsEntry, IsImage, is_obj, obj_at, is_code, code_at, flag_from, flag_at, entry_from, entry_at, block_from, block_at, address_of, address_at, undo_from, undo_at, place_from, place_at, link_from, link_at, kind_at, writer_at, slot_of, image_at}
 use Rattle.redo_record.proofs.Laws.{Spells, byte_spells, text_spells, spells16, spells32, spells64, both_spell, made_spell, chosen_spell, tested_spell, some_is, test_some}

@@ -1,6 +1,6 @@
 -- A form: what a reader takes is spelled so, and what is spelled so is read, whatever follows.
 use Rattle.std.proofs.Common.{◌≡◌, ℕ, zero, suc, ◌+◌, ◌^◌, ◌<◌, ◌≤◌, Bool, true, false, cond, ltb, List, [], ◌∷◌, ◌++◌, length, get_or, take, drop, Option, Some, None, refl, sym, ap, subst, ◌∙◌, append_assoc, arith, inl, inr, w16, w32, w64, flat_map, ltb-false, le-ltb, take_at, drop_at, take-append-drop, length-append, length-take, get_or-drop, get_or-take}
-use Rattle.seg_words.proofs.Std.{Width, byte_len, from_be_bytes, to_be_bytes, AllByRecursion, cases_lt, get_or_past, flat_map-cons, be_bytes_2, be_bytes_4, be_bytes_8, from_be_bytes-to_be_bytes_2, from_be_bytes-to_be_bytes_4, from_be_bytes-to_be_bytes_8}
+use Rattle.seg_words.proofs.Lemmas.{Width, byte_len, from_be_bytes, to_be_bytes, AllByRecursion, cases_lt, get_or_past, flat_map-cons, be_bytes_2, be_bytes_4, be_bytes_8, from_be_bytes-to_be_bytes_2, from_be_bytes-to_be_bytes_4, from_be_bytes-to_be_bytes_8}
 use Rattle.redo_record.specs.Types.{big_endian, Reader, ◌>>=◌, byte, number, text, both, chosen, made, tested, many}
 
 abbrev pub IsBytes : List ℕ → Type 0

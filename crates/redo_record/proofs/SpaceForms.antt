@@ -1,6 +1,6 @@
 -- The forms of the records that change tables and their space.
 use Rattle.std.proofs.Common.{◌≡◌, ℕ, zero, suc, ◌^◌, ◌<◌, ◌≤◌, true, leb, ◌&&◌, get_or, List, [], ◌∷◌, length, Some, None, refl, sym, ap, subst, arith, slice_index_or, leb-true, le-leb}
-use Rattle.seg_words.proofs.Std.{list_all}
+use Rattle.seg_words.proofs.Lemmas.{list_all}
 use Rattle.seg_words.specs.Types.{Unformatted, Full, Fs1, Fs2, Fs3, Fs4, class_code, class_from, is_name, is_lower, is_name_byte, MOST_PCTFREE, LONGEST_NAME}
 use Rattle.redo_record.specs.Types.{byte, tested, table, movement, extend, format_block, class, advance, three_blocks, three_codes, extents, lower, IsBlock, IsTable, IsMovement, IsExtend, IsFormatBlock, IsClass, IsAdvance, IsThree, AreExtents, IsLower, is_pctfree, name_from, name_at, table_of, table_at, movement_of, movement_at, extend_of, extend_at, format_block_of, format_block_at, class_code_at, class_of, class_at, advance_of, advance_at, three, three_blocks_at, three_codes_at, second, extents_at, lower_of, lower_at}
 use Rattle.redo_record.proofs.Laws.{Spells, byte_spells, text_spells, spells16, spells32, spells64, both_spell, made_spell, chosen_spell, tested_spell, many_spell, test_some, some_is}

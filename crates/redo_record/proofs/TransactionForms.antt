@@ -1,6 +1,6 @@
 -- The forms of the records that begin and end transactions, and what goes with them.
 use Rattle.std.proofs.Common.{ℕ, ◌^◌, ◌<◌, List, ◌∷◌, length, refl, ap, arith, flat_map}
-use Rattle.seg_words.proofs.Std.{AllByRecursion}
+use Rattle.seg_words.proofs.Lemmas.{AllByRecursion}
 use Rattle.redo_record.specs.Types.{begin, reuse, commit, ended, ended_transaction, clean, IsBegin, IsReuse, IsCommit, IsEnded, IsClean, begin_of, begin_at, reuse_of, reuse_at, commit_of, commit_at, ended_of, ended_at, ended_transaction_at, ended_transactions_at, second, clean_of, clean_at}
 use Rattle.redo_record.proofs.Laws.{Spells, byte_spells, spells32, spells64, both_spell, made_spell, many_spell}
 

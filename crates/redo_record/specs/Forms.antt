@@ -1,6 +1,6 @@
 -- Reading bytes from left to right: a value and the bytes after it, or None where no value is spelled there.
 use Rattle.std.specs.Prelude.{◌≡◌, ℕ, zero, suc, Bool, List, [], ◌∷◌, length, take, drop, nat_lt, Option, Some, None, Result, Ok, Err, if◌then◌else◌}
-use Rattle.std.specs.Int.{Width, byte_len, from_be_bytes}
+use Rattle.seg_words.specs.Types.{Width, byte_len, from_be_bytes}
 use Rattle.std.specs.Borrow.{Bor}
 use Rattle.std.specs.Global.{Vec}
 use Rattle.redo_record.specs.OwnTypes.{ReadFault}

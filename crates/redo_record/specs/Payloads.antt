@@ -1,6 +1,6 @@
 -- Whole records one behind the other.
 use Rattle.std.specs.Prelude.{ℕ, List, flat_map}
-use Rattle.std.specs.List.{AllByRecursion}
+use Rattle.seg_words.specs.Types.{AllByRecursion}
 use Rattle.redo_record.specs.OwnTypes.{Record}
 use Rattle.redo_record.specs.Spelling.{spelling}
 use Rattle.redo_record.specs.Spelled.{HasSpelling}

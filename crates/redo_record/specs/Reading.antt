@@ -1,7 +1,6 @@
 -- Reading redo records.
 use Rattle.std.specs.Prelude.{ℕ, zero, suc, Bool, true, false, ◌==◌, ◌&&◌, nat_le, List, [], ◌∷◌, Option, Some, None, is_none, if◌then◌else◌}
-use Rattle.std.specs.Int.{w16, w32, w64}
-use Rattle.seg_words.specs.Types.{Slot, Kind, Writer, UndoAddr, Rowid, UndoPlace, class_from, kind_from, writer_from, is_name, MOST_PCTFREE, MOST_TABLES}
+use Rattle.seg_words.specs.Types.{w16, w32, w64, Slot, Kind, Writer, UndoAddr, Rowid, UndoPlace, class_from, kind_from, writer_from, is_name, MOST_PCTFREE, MOST_TABLES}
 use Rattle.redo_record.specs.OwnTypes.{RowPart, BackPart, RowBody, BackRecord, MoveRecord, TableRecord, MovementRecord, ExtendRecord, FormatBlockRecord, ClassRecord, AdvanceRecord, LowerRecord, BeginRecord, ReuseRecord, CommitRecord, EndedRecord, CleanRecord, Record, Table, Movement, Extend, FormatBlock, Class, Advance, Lower, Begin, Reuse, Insert, Update, Migrate, Return, Delete, Commit, Back, Ended, Move, Clean}
 use Rattle.redo_record.specs.Forms.{Reader, ◌>>=◌, byte, number, text, both, chosen, made, tested, many}
 use Rattle.seg_base.specs.declared.class.Class as the

@@ -1,8 +1,7 @@
 -- Which records have a spelling: each number is in the range of its field, a row's length and each count too, and an
 -- address or a block that is there isn't written as none.
 use Rattle.std.specs.Prelude.{◌≡◌, ℕ, ◌<◌, ◌≤◌, ◌^◌, true, List, length, Option, Some, None}
-use Rattle.std.specs.List.{AllByRecursion}
-use Rattle.seg_words.specs.Types.{Slot, UndoAddr, Rowid, UndoPlace, writer_number, is_name, MOST_PCTFREE, MOST_TABLES}
+use Rattle.seg_words.specs.Types.{AllByRecursion, Slot, UndoAddr, Rowid, UndoPlace, writer_number, is_name, MOST_PCTFREE, MOST_TABLES}
 use Rattle.redo_record.specs.OwnTypes.{RowPart, BackPart, RowBody, BackRecord, MoveRecord, TableRecord, MovementRecord, ExtendRecord, FormatBlockRecord, ClassRecord, AdvanceRecord, LowerRecord, BeginRecord, ReuseRecord, CommitRecord, EndedRecord, CleanRecord, Record, Table, Movement, Extend, FormatBlock, Class, Advance, Lower, Begin, Reuse, Insert, Update, Migrate, Return, Delete, Commit, Back, Ended, Move, Clean}
 
 abbrev pub IsTableNumber : ℕ → Type 0

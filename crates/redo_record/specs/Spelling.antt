@@ -1,8 +1,7 @@
 -- The spelling of a redo record: its kind, then its fields; numbers are big-endian. A redo record describes changes, block
 -- by block (Oracle Database Concepts: redo records and change vectors). The bytes are this engine's own.
 use Rattle.std.specs.Prelude.{ℕ, Bool, true, false, List, [], ◌∷◌, ◌++◌, length, slice_index_or, Option, Some, None, flat_map}
-use Rattle.std.specs.Int.{Width, w16, w32, w64, to_be_bytes}
-use Rattle.seg_words.specs.Types.{Slot, UndoAddr, UndoPlace, class_code, slot_bytes, undo_or_zeros}
+use Rattle.seg_words.specs.Types.{Width, w16, w32, w64, to_be_bytes, Slot, UndoAddr, UndoPlace, class_code, slot_bytes, undo_or_zeros}
 use Rattle.redo_record.specs.OwnTypes.{RowPart, BackPart, RowBody, BackRecord, MoveRecord, TableRecord, MovementRecord, ExtendRecord, FormatBlockRecord, ClassRecord, AdvanceRecord, LowerRecord, BeginRecord, ReuseRecord, CommitRecord, EndedRecord, CleanRecord, Record, Table, Movement, Extend, FormatBlock, Class, Advance, Lower, Begin, Reuse, Insert, Update, Migrate, Return, Delete, Commit, Back, Ended, Move, Clean}
 
 -- ---- fields

@@ -1,6 +1,6 @@
 // Bytes that are read from left to right, and the plain fields.
 ghost use Rattle.std.specs.Prelude.{◌≡◌};
-ghost use Rattle.std.specs.Int.{w16, w32, w64};
+ghost use Rattle.seg_words.specs.Types.{w16, w32, w64};
 ghost use Rattle.redo_record.specs.Forms.{Reads, ReadsBytes, byte, number, text};
 ghost use Rattle.redo_record.specs.Reading.{obj_at, code_at, flag_at, entry_at, block_at};
 

@@ -1,6 +1,6 @@
 // Bytes that are added to others, field by field.
 ghost use Rattle.std.specs.Prelude.{◌≡◌, ◌∷◌, []};
-ghost use Rattle.std.specs.Int.{w16, w32, w64};
+ghost use Rattle.seg_words.specs.Types.{w16, w32, w64};
 ghost use Rattle.redo_record.specs.Spelling.{big_endian};
 ghost use Rattle.redo_record.specs.Adding.{Adds};
 

@@ -1,6 +1,6 @@
 -- What keeps a block on its page.
 use Rattle.std.proofs.Common.{◌≡◌, ℕ, suc, ◌+◌, ◌-◌, ◌*◌, ◌<◌, ◌≤◌, max, Bool, true, cond, ltb, leb, ◌&&◌, List, [], ◌∷◌, length, get_or, map, inl, inr, Option, Some, None, refl, sym, ap, ◌∙◌, arith, zero, sum_by, All, le-leb}
-use Rattle.seg_words.proofs.Std.{AllByRecursion, cases_Bool, cases_lt, nat_tests, length-map, All-set, All-push, recursion_from_All, All-from_recursion, sum_by-cons, sum_by-set, sum_by_push, get_or-le-sum_by}
+use Rattle.seg_words.proofs.Lemmas.{AllByRecursion, cases_Bool, cases_lt, nat_tests, length-map, All-set, All-push, recursion_from_All, All-from_recursion, sum_by-cons, sum_by-set, sum_by_push, get_or-le-sum_by}
 use Rattle.seg_words.specs.Types.{Slot, ListEntry, Writer, By, At, Block, new_slot, new_entry, put, put_slot, put_entry, writer_has_ended, slot_size, used_of, free_of, entry_for, number_of_writer, as_told, clean_slot, clean_entry, clean_block, BLOCK_ROOM, SLOT_SIZE, MOST_SLOTS, LIST_ENTRY_SIZE, LEAST_LIST_ENTRIES, MOST_LIST_ENTRIES}
 use Rattle.seg_base.proofs.Puts.{put_set, put_push, length-put}
 use Rattle.seg_base.proofs.Rooms.{entry_for-within}

@@ -1,6 +1,6 @@
 -- What a page reads as has a spelling.
 use Rattle.std.proofs.Common.{◌≡◌, ℕ, zero, suc, ◌+◌, ◌*◌, ◌≤◌, List, length, get_or, take, drop, refl, arith, length-take}
-use Rattle.seg_words.proofs.Std.{AllByRecursion}
+use Rattle.seg_words.proofs.Lemmas.{AllByRecursion}
 use Rattle.seg_words.specs.Types.{BLOCK_SIZE, PAGE_HEAD_SIZE, SLOT_SIZE, MOST_SLOTS, LIST_ENTRY_SIZE, LEAST_LIST_ENTRIES, MOST_LIST_ENTRIES}
 use Rattle.page_bytes.specs.Types.{pieces_in, fields_in, row_len, IsSlot, entry_from, IsListEntry}
 use Rattle.page_bytes.proofs.Ranges.{IsBytes, bytes_take, bytes_drop, number_32, number_64, pieces_fit, entry_fits, slot_fits}

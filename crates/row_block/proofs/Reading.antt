@@ -1,6 +1,6 @@
 -- Slots read one after the other; their rows take no more than was there.
 use Rattle.std.proofs.Common.{◌≡◌, ℕ, zero, suc, ◌+◌, ◌-◌, ◌*◌, ◌<◌, ◌≤◌, List, [], ◌∷◌, ◌++◌, length, take, drop, refl, sym, ap, ◌∙◌, append_assoc, arith, flat_map, append-nil, length-drop, length-take, length-append}
-use Rattle.seg_words.proofs.Std.{AllByRecursion, flat_map-cons, All-from_recursion}
+use Rattle.seg_words.proofs.Lemmas.{AllByRecursion, flat_map-cons, All-from_recursion}
 use Rattle.seg_words.specs.Types.{Slot, ListEntry, Writer, By, At, BLOCK_SIZE, PAGE_HEAD_SIZE, SLOT_SIZE, MOST_SLOTS, LIST_ENTRY_SIZE, LEAST_LIST_ENTRIES, MOST_LIST_ENTRIES}
 use Rattle.page_bytes.specs.declared.slot.SlotFields.{SlotFields}
 use Rattle.page_bytes.specs.Types.{pieces_in, fields_in, row_len, slot_as, room_as, writer_as, entry_from}

@@ -1,6 +1,6 @@
 -- A row block's page that is spelled is read.
 use Rattle.std.proofs.Common.{◌≡◌, ℕ, suc, ◌+◌, ◌-◌, ◌*◌, ◌≤◌, List, [], ◌∷◌, ◌++◌, length, take, drop, refl, sym, ap, ◌∙◌, append_assoc, arith, true, replicate, w32, w64, flat_map, sum_by, length-append}
-use Rattle.seg_words.proofs.Std.{AllByRecursion, flat_map-cons, sum_by-cons, from_be_bytes-to_be_bytes_4, from_be_bytes-to_be_bytes_8}
+use Rattle.seg_words.proofs.Lemmas.{AllByRecursion, flat_map-cons, sum_by-cons, from_be_bytes-to_be_bytes_4, from_be_bytes-to_be_bytes_8}
 use Rattle.seg_words.specs.Types.{Slot, ListEntry, Writer, By, At, number_in, writer_has_ended, slot_size, slot_bytes, BLOCK_SIZE, PAGE_HEAD_SIZE, SLOT_SIZE, MOST_SLOTS, LIST_ENTRY_SIZE, LEAST_LIST_ENTRIES, MOST_LIST_ENTRIES}
 use Rattle.page_bytes.specs.declared.slot.SlotFields.{SlotFields}
 use Rattle.page_bytes.specs.Types.{head_bytes, pieces_in, fields_in, row_len, slot_as, IsSlot, entry_bytes, entry_from, IsListEntry}

@@ -1,8 +1,6 @@
 -- The one spelling of a row block's page, and what the fields of any page read as.
 use Rattle.std.specs.Prelude.{◌≡◌, ℕ, zero, suc, ◌+◌, ◌-◌, ◌*◌, ◌/◌, ◌<◌, ◌^◌, min, max, List, [], ◌∷◌, ◌++◌, length, slice_index, take, drop, Result, Ok, Err, flat_map}
-use Rattle.std.specs.Int.{w32, w64}
-use Rattle.std.specs.List.{AllByRecursion}
-use Rattle.seg_words.specs.Types.{Slot, number_in, slot_bytes, BLOCK_SIZE, PAGE_HEAD_SIZE, SLOT_SIZE, MOST_SLOTS, LIST_ENTRY_SIZE}
+use Rattle.seg_words.specs.Types.{w32, w64, AllByRecursion, Slot, number_in, slot_bytes, BLOCK_SIZE, PAGE_HEAD_SIZE, SLOT_SIZE, MOST_SLOTS, LIST_ENTRY_SIZE}
 use Rattle.page_bytes.specs.Types.{page_of, head_bytes, first_wrong, pieces_in, fields_in, row_len, slot_as, IsSlot, entry_bytes, entry_from, IsListEntry}
 use Rattle.row_block.specs.declared.fault.BlockFault.{BlockFault}
 use Rattle.row_block.specs.declared.fault.BlockFault.TheVariants.{NoRoom, NoSlot, BadPage, NoMemory}

@@ -1,7 +1,6 @@
 // The transaction list of a block, 2 to 8 entries that take no memory.
 ghost use Rattle.std.specs.Prelude.{◌≡◌, ◌<◌, ◌≤◌, ◌∷◌, ◌++◌, [], length, map, set, cond, ltb, Some, None};
-ghost use Rattle.std.specs.List.{position_or_len};
-ghost use Rattle.seg_words.specs.Types.{new_entry, put, clean_entry, names, is_spare};
+ghost use Rattle.seg_words.specs.Types.{position_or_len, new_entry, put, clean_entry, names, is_spare};
 
 use crate::clean::clean_entries;
 use seg_base::{Ended, LEAST_LIST_ENTRIES, ListEntry, MOST_LIST_ENTRIES, Scn, TxnId};

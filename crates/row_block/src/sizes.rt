@@ -1,7 +1,6 @@
 // What slots count, and which is used next.
 ghost use Rattle.std.specs.Prelude.{◌≡◌, ◌<◌, ◌≤◌, length, get_or, cond, ltb, Some, None, All, sum_by};
-ghost use Rattle.std.specs.List.{position_or_len};
-ghost use Rattle.seg_words.specs.Types.{row_size, slot_size, writer_has_ended, is_reusable};
+ghost use Rattle.seg_words.specs.Types.{position_or_len, row_size, slot_size, writer_has_ended, is_reusable};
 
 use seg_base::{Ended, Kind, MOST_SLOTS, SLOT_SIZE, Slot, TxnId, Writer};
 

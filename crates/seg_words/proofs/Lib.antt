@@ -1,1 +1,1 @@
-pub mod Std
+pub mod Lemmas

@@ -1,4 +1,5 @@
--- The types and the words of seg_base, for the specifications, contracts and proofs of the crates above. Declares nothing.
+-- The types and the words of seg_base, for the specifications, contracts and proofs of the crates above, with the words of
+-- the standard library on lists and number fields that they go with. Declares nothing.
 pub use Rattle.seg_base.specs.declared.limit.TheConstants.{BLOCK_SIZE, BLOCK_ROOM, LONGEST_ROW, PAGE_HEAD_SIZE, SLOT_SIZE, MOST_SLOTS, LIST_ENTRY_SIZE, LEAST_LIST_ENTRIES, MOST_LIST_ENTRIES, MOST_PCTFREE, UNDO_PART_SIZE, MOST_UNDO_PARTS, TXN_ENTRIES, MOST_TABLES, MOST_EXTENTS, EXTENTS_OF_L2, MOST_L2, ADVANCE_BLOCKS, LONGEST_NAME, MOST_SESSIONS, OWN_BLOCKS, CHECKPOINT_BLOCK, TXN_TABLE_BLOCK, CATALOGUE_BLOCK, SPACE_BLOCK, DOUBLE_WRITE_BLOCK, DOUBLE_WRITE_PAGES, LOG_HEAD_SIZE, FIRST_GATE, LEAST_BLOCKS, MOST_BLOCKS, LEAST_EXTENT_BLOCKS, MOST_EXTENT_BLOCKS, LEAST_UNDO_BLOCKS, MOST_UNDO_BLOCKS}
 pub use Rattle.seg_base.specs.declared.failure.NoMemory.{NoMemory}
 pub use Rattle.seg_base.specs.declared.class.Class.{Class}
@@ -26,3 +27,5 @@ pub use Rattle.seg_base.specs.Images.{kind_code, kind_from, link_bytes, link_or_
 pub use Rattle.seg_base.specs.Places.{data_place, first_block, head_blocks, is_extent, is_shape, wrong_number}
 pub use Rattle.seg_base.specs.Room.{class_of_block, entry_for, entry_need, entry_size, fits, fits_beside, free_of, has_room, is_empty, is_reusable, is_spare, made_entry, names, next_room, other_entry, row_growth, row_size, slot_need, slot_size, slot_to_use, takes, takes_beside, used_of, writer_has_ended}
 pub use Rattle.seg_base.specs.Words.{is_lower, is_name, is_name_byte}
+pub use Rattle.std.specs.List.{AllByRecursion, common_prefix_len, list_all, list_any, onto_first, position_or_len}
+pub use Rattle.std.specs.Int.{Width, byte_len, from_be_bytes, to_be_bytes, w16, w32, w64}

@@ -1,6 +1,6 @@
 -- Pages written part by part: the bytes behind each other are the spelling.
 use Rattle.std.proofs.Common.{◌≡◌, ℕ, ◌-◌, ◌≤◌, List, [], ◌∷◌, ◌++◌, length, take, ap, sym, ◌∙◌, append_assoc, Some, replicate, take_all, flat_map, w32, w64}
-use Rattle.seg_words.proofs.Std.{take-replicate, to_be_bytes}
+use Rattle.seg_words.proofs.Lemmas.{take-replicate, to_be_bytes}
 use Rattle.seg_words.specs.Types.{LONGEST_NAME}
 use Rattle.page_bytes.specs.Types.{head_bytes, page_of}
 use Rattle.segment_blocks.specs.Types.{Checkpoint, spelling_of_checkpoint, Space, spelling_of_space, Tables, spelled_table, spelled_entry, spelling_of_tables, Header, extent_bytes, fields_of, spelling_of_header}

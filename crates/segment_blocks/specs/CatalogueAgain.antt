@@ -1,6 +1,6 @@
 -- A catalogue that is spelled is read.
 use Rattle.std.proofs.Common.{◌≡◌, ℕ, ◌-◌, ◌≤◌, min, Bool, true, false, List, ◌++◌, length, take, drop, Option, Some, None, refl, sym, ap, ◌∙◌, append_assoc, arith, replicate, if◌then◌else◌, ◌&&◌, nat_le, slice_index, w32, w64, flat_map, length-append, length-take, take_all, leb-true}
-use Rattle.seg_words.proofs.Std.{to_be_bytes, from_be_bytes, list_all, from_be_bytes-to_be_bytes_4, from_be_bytes-to_be_bytes_8, length-replicate}
+use Rattle.seg_words.proofs.Lemmas.{to_be_bytes, from_be_bytes, list_all, from_be_bytes-to_be_bytes_4, from_be_bytes-to_be_bytes_8, length-replicate}
 use Rattle.seg_words.specs.Types.{number_in, is_name, is_lower, is_name_byte, BLOCK_SIZE, MOST_TABLES, LONGEST_NAME}
 use Rattle.page_bytes.proofs.Fronts.{take_front, drop_front}
 use Rattle.page_bytes.specs.Types.{pieces_in}

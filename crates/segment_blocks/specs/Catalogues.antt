@@ -1,10 +1,7 @@
 -- The catalogue: the tables of a store by name (Oracle Database Concepts, "Data Dictionary"). That it is one block with
 -- room for 32 tables, and its layout, is this engine's own.
-use Rattle.std.specs.Prelude.{◌≡◌, ℕ, zero, suc, ◌+◌, ◌-◌, ◌<◌, ◌^◌, min, Bool, true, false, List, [], ◌∷◌, ◌++◌, length, slice_index, take, drop, replicate, if◌then◌else◌, Option, Some, None, option_map, position, count_by, flat_map}
-use Rattle.std.specs.Int.{w32, w64, to_be_bytes}
-use Rattle.std.specs.List.{AllByRecursion}
-use Rattle.std.specs.Str.{bytes_eq}
-use Rattle.seg_words.specs.Types.{number_in, is_name, MOST_TABLES, LONGEST_NAME}
+use Rattle.std.specs.Prelude.{◌≡◌, ℕ, zero, suc, ◌+◌, ◌-◌, ◌<◌, ◌^◌, min, Bool, true, false, List, [], ◌∷◌, ◌++◌, length, slice_index, take, drop, replicate, if◌then◌else◌, Option, Some, None, option_map, position, count_by, flat_map, bytes_eq}
+use Rattle.seg_words.specs.Types.{AllByRecursion, w32, w64, to_be_bytes, number_in, is_name, MOST_TABLES, LONGEST_NAME}
 use Rattle.page_bytes.specs.Types.{page_of, head_bytes, pieces_in}
 use Rattle.segment_blocks.specs.declared.entry.CatalogueEntry.{CatalogueEntry}
 use Rattle.segment_blocks.specs.declared.entry.NamedTable.{NamedTable}

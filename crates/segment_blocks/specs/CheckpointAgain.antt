@@ -1,6 +1,6 @@
 -- A checkpoint page that is spelled is read.
 use Rattle.std.proofs.Common.{◌≡◌, refl, w32, w64}
-use Rattle.seg_words.proofs.Std.{from_be_bytes-to_be_bytes_4, from_be_bytes-to_be_bytes_8}
+use Rattle.seg_words.proofs.Lemmas.{from_be_bytes-to_be_bytes_4, from_be_bytes-to_be_bytes_8}
 use Rattle.seg_words.specs.Types.{number_in}
 use Rattle.segment_blocks.specs.Checkpoints.{Checkpoint, spelling_of_checkpoint, checkpoint_in, IsCheckpoint}
 

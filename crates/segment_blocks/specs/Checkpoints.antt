@@ -1,8 +1,7 @@
 -- The checkpoint page: from which record on opening has to redo (Oracle Database Concepts, "Overview of Checkpoints").
 -- The layout is this engine's own.
 use Rattle.std.specs.Prelude.{ℕ, ◌<◌, ◌^◌, List, ◌++◌}
-use Rattle.std.specs.Int.{w32, w64, to_be_bytes}
-use Rattle.seg_words.specs.Types.{number_in}
+use Rattle.seg_words.specs.Types.{w32, w64, to_be_bytes, number_in}
 use Rattle.page_bytes.specs.Types.{page_of, head_bytes}
 
 -- how many records there were, where the log's end gate stood, how many commits there were; its own LSN is that length

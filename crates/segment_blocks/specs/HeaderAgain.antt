@@ -1,6 +1,6 @@
 -- A header that is spelled is read.
 use Rattle.std.proofs.Common.{◌≡◌, ℕ, ◌<◌, ◌≤◌, ◌^◌, min, Bool, true, false, List, ◌++◌, length, refl, ap, ◌∙◌, arith, replicate, ◌-◌, w16, w32, w64, flat_map}
-use Rattle.seg_words.proofs.Std.{from_be_bytes-to_be_bytes_2, from_be_bytes-to_be_bytes_4, from_be_bytes-to_be_bytes_8}
+use Rattle.seg_words.proofs.Lemmas.{from_be_bytes-to_be_bytes_2, from_be_bytes-to_be_bytes_4, from_be_bytes-to_be_bytes_8}
 use Rattle.seg_words.specs.Types.{number_in, BLOCK_SIZE, MOST_PCTFREE, MOST_TABLES, MOST_EXTENTS}
 use Rattle.page_bytes.specs.Types.{pieces_in}
 use Rattle.page_bytes.proofs.PiecesIn.{pieces_again}

@@ -1,9 +1,7 @@
 -- A segment's header: its table, what its statements said of it, its marks and its extents (Oracle Database Concepts,
 -- "Segments", "Segment Space and the High Water Mark"). The layout is this engine's own.
 use Rattle.std.specs.Prelude.{ℕ, zero, suc, ◌<◌, ◌≤◌, ◌^◌, min, max, Bool, true, false, List, [], ◌∷◌, ◌++◌, length, slice_index, drop, replicate, Option, Some, None, flat_map}
-use Rattle.std.specs.Int.{w16, w32, w64, to_be_bytes}
-use Rattle.std.specs.List.{AllByRecursion}
-use Rattle.seg_words.specs.Types.{number_in, MOST_PCTFREE, MOST_TABLES, MOST_EXTENTS}
+use Rattle.seg_words.specs.Types.{AllByRecursion, w16, w32, w64, to_be_bytes, number_in, MOST_PCTFREE, MOST_TABLES, MOST_EXTENTS}
 use Rattle.page_bytes.specs.Types.{page_of, head_bytes, pieces_in}
 
 -- the table, its PCTFREE, whether its rows may be moved, its low and high water marks, its extents in order of index

@@ -1,6 +1,6 @@
 -- A space bitmap that is spelled is read.
 use Rattle.std.proofs.Common.{◌≡◌, ℕ, ◌*◌, ◌/◌, List, ◌++◌, length, slice_index, slice_set, take, drop, refl, ap, ◌∙◌, replicate, ◌-◌, w32, w64}
-use Rattle.seg_words.proofs.Std.{from_be_bytes-to_be_bytes_4, from_be_bytes-to_be_bytes_8, set-get_or}
+use Rattle.seg_words.proofs.Lemmas.{from_be_bytes-to_be_bytes_4, from_be_bytes-to_be_bytes_8, set-get_or}
 use Rattle.seg_words.specs.Types.{number_in, BLOCK_SIZE}
 use Rattle.page_bytes.proofs.Fronts.{take_front}
 use Rattle.segment_blocks.specs.Spaces.{Space, front_of_space, spelling_of_space, bits_in, space_in, HasBits, IsSpace}

@@ -1,8 +1,7 @@
 -- The space bitmap: which extents of the store are in use (Oracle Database Concepts, "Extent Management": a locally
 -- managed tablespace tracks extents in bitmaps). The layout is this engine's own.
 use Rattle.std.specs.Prelude.{◌≡◌, ℕ, ◌-◌, ◌*◌, ◌/◌, ◌%◌, ◌<◌, ◌^◌, ◌==◌, Bool, true, false, List, ◌++◌, length, slice_index, slice_set, take, drop, Option, MatchOption}
-use Rattle.std.specs.Int.{w32, w64, to_be_bytes}
-use Rattle.seg_words.specs.Types.{number_in}
+use Rattle.seg_words.specs.Types.{w32, w64, to_be_bytes, number_in}
 use Rattle.page_bytes.specs.Types.{page_of, head_bytes}
 
 -- how often a table's marks were lowered, and a bit for each of 2,043 extents in 256 bytes

@@ -1,6 +1,6 @@
 -- What is read from bytes is in the ranges of its fields.
 use Rattle.std.proofs.Common.{ℕ, zero, suc, ◌<◌, ◌^◌, List, get_or, drop, Option, arith, w32, w64}
-use Rattle.seg_words.proofs.Std.{AllByRecursion}
+use Rattle.seg_words.proofs.Lemmas.{AllByRecursion}
 use Rattle.seg_words.specs.Types.{UndoAddr, number_in}
 use Rattle.page_bytes.specs.Types.{pieces_in, undo_as, UndoFits}
 use Rattle.page_bytes.proofs.Ranges.{IsBytes, bytes_drop, number_32, number_64, pieces_fit}

@@ -1,6 +1,6 @@
 -- A transaction table that is spelled is read.
 use Rattle.std.proofs.Common.{◌≡◌, ℕ, zero, suc, ◌-◌, ◌<◌, ◌^◌, List, ◌++◌, length, Option, Some, None, refl, sym, ap, ◌∙◌, arith, replicate, w32, w64, flat_map}
-use Rattle.seg_words.proofs.Std.{from_be_bytes-to_be_bytes_4, from_be_bytes-to_be_bytes_8}
+use Rattle.seg_words.proofs.Lemmas.{from_be_bytes-to_be_bytes_4, from_be_bytes-to_be_bytes_8}
 use Rattle.seg_words.specs.Types.{number_in, BLOCK_SIZE, TXN_ENTRIES}
 use Rattle.page_bytes.specs.Types.{pieces_in}
 use Rattle.page_bytes.proofs.PiecesIn.{pieces_again}

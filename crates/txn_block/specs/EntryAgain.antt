@@ -1,6 +1,6 @@
 -- An entry that is spelled is read.
 use Rattle.std.proofs.Common.{◌≡◌, ℕ, zero, suc, ◌<◌, ◌^◌, length, Option, Some, None, refl, arith, w32, w64}
-use Rattle.seg_words.proofs.Std.{from_be_bytes-to_be_bytes_4, from_be_bytes-to_be_bytes_8}
+use Rattle.seg_words.proofs.Lemmas.{from_be_bytes-to_be_bytes_4, from_be_bytes-to_be_bytes_8}
 use Rattle.seg_words.specs.Types.{UndoAddr, number_in, undo_or_zeros}
 use Rattle.page_bytes.specs.Types.{undo_as, UndoFits}
 use Rattle.txn_block.specs.OwnTypes.{Outcome, Active, Committed, RolledBack, TxnEntry, TableEntry, Unused, Used}

@@ -1,7 +1,6 @@
 -- The 32 bytes of an entry. The layout is this engine's own.
 use Rattle.std.specs.Prelude.{ℕ, zero, suc, ◌<◌, ◌^◌, List, [], ◌∷◌, ◌++◌, replicate, slice_index, Option}
-use Rattle.std.specs.Int.{w32, w64, to_be_bytes}
-use Rattle.seg_words.specs.Types.{UndoAddr, number_in, undo_or_zeros, undo_bytes}
+use Rattle.seg_words.specs.Types.{w32, w64, to_be_bytes, UndoAddr, number_in, undo_or_zeros, undo_bytes}
 use Rattle.page_bytes.specs.Types.{undo_as, UndoFits}
 use Rattle.txn_block.specs.OwnTypes.{Outcome, Active, Committed, RolledBack, TxnEntry, TableEntry, Unused, Used}
 

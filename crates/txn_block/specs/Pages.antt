@@ -1,8 +1,6 @@
 -- The page of the transaction table.
 use Rattle.std.specs.Prelude.{◌≡◌, ℕ, zero, suc, ◌<◌, ◌^◌, List, ◌++◌, length, drop, Option, Some, None, flat_map}
-use Rattle.std.specs.Int.{w32, w64, to_be_bytes}
-use Rattle.std.specs.List.{AllByRecursion}
-use Rattle.seg_words.specs.Types.{number_in, TXN_ENTRIES}
+use Rattle.seg_words.specs.Types.{w32, w64, to_be_bytes, AllByRecursion, number_in, TXN_ENTRIES}
 use Rattle.page_bytes.specs.Types.{page_of, head_bytes, pieces_in}
 use Rattle.txn_block.specs.OwnTypes.{TableEntry}
 use Rattle.txn_block.specs.Tables.{TxnTable}

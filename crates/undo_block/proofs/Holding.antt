@@ -1,6 +1,6 @@
 -- The holder of the parts behind a place.
 use Rattle.std.proofs.Common.{◌≡◌, ℕ, ◌+◌, ◌<◌, ◌≤◌, Bool, List, length, drop, get_or, sym, ap, ◌∙◌, None}
-use Rattle.seg_words.proofs.Std.{drop_more, drop_all}
+use Rattle.seg_words.proofs.Lemmas.{drop_more, drop_all}
 use Rattle.undo_block.specs.Types.{Part, holder_of, with_part}
 
 pub none_held : (ended : ℕ → Bool) (ps : List Part) (i : ℕ) → length ps ≤ i → holder_of ended (drop i ps) ≡ None

@@ -1,6 +1,6 @@
 -- What parts use.
 use Rattle.std.proofs.Common.{◌≡◌, ℕ, ◌+◌, ◌<◌, ◌≤◌, min, List, [], ◌∷◌, ◌++◌, length, take, get_or, sym, ap, ◌∙◌, arith, take_all}
-use Rattle.seg_words.proofs.Std.{sum_by-cons, take_more}
+use Rattle.seg_words.proofs.Lemmas.{sum_by-cons, take_more}
 use Rattle.seg_words.specs.Types.{BLOCK_ROOM, UNDO_PART_SIZE, MOST_UNDO_PARTS}
 use Rattle.undo_block.specs.Types.{Part, part_size, used_by}
 use Rattle.undo_block.specs.Again.{few_parts}

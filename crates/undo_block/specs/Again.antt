@@ -1,6 +1,6 @@
 -- An undo block's page that is spelled is read.
 use Rattle.std.proofs.Common.{◌≡◌, ℕ, zero, suc, ◌+◌, ◌-◌, ◌*◌, ◌<◌, ◌≤◌, ◌^◌, false, List, [], ◌∷◌, ◌++◌, length, take, drop, refl, ap, ◌∙◌, append_assoc, arith, Option, Some, None, replicate, nat_lt, w16, w32, w64, flat_map, length-append, le-ltb}
-use Rattle.seg_words.proofs.Std.{AllByRecursion, flat_map-cons, sum_by-cons, from_be_bytes-to_be_bytes_2, from_be_bytes-to_be_bytes_4, from_be_bytes-to_be_bytes_8}
+use Rattle.seg_words.proofs.Lemmas.{AllByRecursion, flat_map-cons, sum_by-cons, from_be_bytes-to_be_bytes_2, from_be_bytes-to_be_bytes_4, from_be_bytes-to_be_bytes_8}
 use Rattle.seg_words.specs.Types.{UndoPlace, number_in, slot_bytes, BLOCK_SIZE, UNDO_PART_SIZE}
 use Rattle.page_bytes.specs.declared.slot.SlotFields.{SlotFields}
 use Rattle.page_bytes.specs.Types.{fields_in, row_len, slot_as}

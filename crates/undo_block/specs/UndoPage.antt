@@ -1,8 +1,6 @@
 -- The page of an undo block: its one spelling, and what the fields of any page read as. The layout is this engine's own.
 use Rattle.std.specs.Prelude.{◌≡◌, ℕ, zero, suc, ◌<◌, ◌≤◌, ◌^◌, nat_lt, if◌then◌else◌, List, [], ◌∷◌, ◌++◌, length, slice_index, take, drop, replicate, Option, Some, None, Result, Ok, Err, flat_map}
-use Rattle.std.specs.Int.{w16, w32, w64, to_be_bytes}
-use Rattle.std.specs.List.{AllByRecursion}
-use Rattle.seg_words.specs.Types.{UndoPlace, number_in, slot_bytes, BLOCK_SIZE, BLOCK_ROOM, UNDO_PART_SIZE}
+use Rattle.seg_words.specs.Types.{w16, w32, w64, to_be_bytes, AllByRecursion, UndoPlace, number_in, slot_bytes, BLOCK_SIZE, BLOCK_ROOM, UNDO_PART_SIZE}
 use Rattle.page_bytes.specs.Types.{page_of, head_bytes, first_wrong, fields_in, row_len, slot_as, IsSlot}
 use Rattle.undo_block.specs.declared.part.Part.{Part}
 use Rattle.undo_block.specs.declared.fault.UndoFault.{UndoFault}

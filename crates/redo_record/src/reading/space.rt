@@ -1,6 +1,6 @@
 // Records that change tables and their space.
 ghost use Rattle.std.specs.Prelude.{◌≡◌, IfOk, length};
-ghost use Rattle.std.specs.Int.{w32};
+ghost use Rattle.seg_words.specs.Types.{w32};
 ghost use Rattle.redo_record.specs.Forms.{Reads, ReadsItems, byte, many, number, tested};
 ghost use Rattle.redo_record.specs.Reading.{is_pctfree, name_at, table_at, movement_at, extend_at, format_block_at, class_code_at, class_at, advance_at, three_blocks_at, three_codes_at, extents_at, lower_at};
 

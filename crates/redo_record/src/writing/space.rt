@@ -1,6 +1,6 @@
 // Records that change tables and their space.
 ghost use Rattle.std.specs.Prelude.{◌≡◌, length, ◌≤◌, flat_map};
-ghost use Rattle.std.specs.Int.{w32};
+ghost use Rattle.seg_words.specs.Types.{w32};
 ghost use Rattle.redo_record.specs.Adding.{Adds};
 ghost use Rattle.redo_record.specs.Spelling.{big_endian, flag, block_or_zero, table, movement, extend, in_bitmaps, format_block, class, advance, three_blocks, three_codes, extents as extents_bytes, lowered, lower};
 

@@ -1,5 +1,5 @@
 use Rattle.std.proofs.Common.{◌≡◌, ◌≤◌, ◌+◌, ◌-◌, eqb, length, drop}
-use Rattle.seg_words.proofs.Std.{common_prefix_len}
+use Rattle.seg_words.proofs.Lemmas.{common_prefix_len}
 use Rattle.page_bytes.proofs.compare.first_wrong.Given as goal
 
 abbrev pub invariant-loop-at : goal.invariant-loop-at

@@ -1,5 +1,5 @@
 use Rattle.std.proofs.Common.{◌≡◌, ◌≤◌, ℕ, cond, ltb, Option, Some, None, arith}
-use Rattle.seg_words.proofs.Std.{nat_tests, prefix_len-le-length}
+use Rattle.seg_words.proofs.Lemmas.{nat_tests, prefix_len-le-length}
 use Rattle.row_block.proofs.sizes.slot_to_use.Goals as goal
 
 none_is : (p n : ℕ) (o : Option ℕ) → p ≤ n → o ≡ None → o ≡ cond (ltb p n) (Some p) None → n ≡ p

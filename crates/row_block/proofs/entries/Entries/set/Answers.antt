@@ -1,5 +1,5 @@
 use Rattle.std.proofs.Common.{◌≡◌, ◌<◌, ℕ, List, length, take, set, arith}
-use Rattle.seg_words.proofs.Std.{common_steps, take-set-lt}
+use Rattle.seg_words.proofs.Lemmas.{common_steps, take-set-lt}
 use Rattle.row_block.proofs.entries.Entries.set.Goals as goal
 
 stored : {A : Type 0} (all now : List A) (n at : ℕ) (a : A) → take n all ≡ now → at < length now → take n (set all at a) ≡ set now at a

@@ -1,4 +1,5 @@
--- The words and lemmas of the standard library that proofs cite, from one place. Declares nothing.
+-- The lemmas of the standard library that proofs cite, from one place; operators and what goes with them stand in
+-- Rattle.std.proofs.Common. Declares nothing.
 pub use Rattle.std.specs.List.{AllByRecursion, common_prefix_len, list_all, list_any, onto_first, position_or_len}
 pub use Rattle.std.specs.Int.{Width, byte_len, from_be_bytes, to_be_bytes}
 pub use Rattle.std.proofs.lemmas.Bool.{agree_below, agree_below_at, and_from, and_left, and_parts, and_right, cases_Bool, cases_eq, cases_lt, cases_order, cond-false, cond-true, cond_both, eqb-false, lt-leb, not-false, not-true, or_cases, or_left, or_parts, or_right}

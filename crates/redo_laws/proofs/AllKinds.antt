@@ -26,7 +26,8 @@ use Rattle.redo_model.specs.Blocks.{takes_row}
 use Rattle.redo_model.specs.Segments.{data_blocks, is_formatted, position, pctfree_of, IsTable}
 use Rattle.redo_model.specs.AllowedRows.{Content, nothing, plain_row, head_to, body_of, with_bytes, at_place, txn_part, next_slot, MayChangeRow, IsFreeFor, InsertAllowed, UpdateAllowed, MigratePlain, MigrateAgain, MigrateAllowed, migrates_plain, migrates_again, ReturnAllowed, DeletePlain, DeleteMigrated, DeleteAllowed, deletes_plain, deletes_migrated}
 use Rattle.redo_model.specs.AllowedMoves.{move_part, first_taker, MovePlain, MoveToBody, MoveMigrated, MoveAllowed, moves_plain, moves_to_body, moves_migrated}
-use Rattle.redo_laws.proofs.Places.{is_in, in_take, Segments, a_table}
+use Rattle.redo_laws.specs.Among.{is_in}
+use Rattle.redo_laws.proofs.Places.{in_take, Segments, a_table}
 use Rattle.redo_laws.proofs.Shapes.{Present, row_block, Replaces, Puts, IsHolder, Source, StandsIn, OldRow, StepShape, holder_bytes, target_reusable, empty_of, row_of_empty}
 
 abbrev pub of_row : RowBody → Bool → List RowPart → Step

@@ -7,11 +7,9 @@ use Rattle.redo_record.specs.declared.record.Record.{Record}
 use Rattle.redo_record.specs.declared.record.Record.TheVariants.{Extend, Lower}
 use Rattle.redo_model.specs.Segments.{Extent, extents_of, blocks_from, extent_data, data_of, data_blocks, under_high, high_mark, has_extent}
 use Rattle.redo_model.specs.Lawful.{IsKindAllowed, AreAllowed}
-use Rattle.redo_laws.proofs.Places.{is_in, in_range, in_either, in_take, data_in_extent, in_data, same_extent, IsNumber, free_has, has_taken}
-
-pub not_in : (x : Bool) → (x ≡ true → ⊥) → x ≡ false
-not_in true h = absurd (h refl)
-not_in false h = refl
+use Rattle.redo_laws.specs.Among.{is_in}
+use Rattle.redo_laws.proofs.Bools.{off}
+use Rattle.redo_laws.proofs.Places.{in_range, in_either, in_take, data_in_extent, in_data, same_extent, IsNumber, free_has, has_taken}
 
 -- extents
 
@@ -22,7 +20,7 @@ Apart (e ∷ es) = (has_extent es e.number ≡ false) × Apart es
 apart-take : (n : ℕ) (es : List Extent) → Apart es → Apart (take n es)
 apart-take zero es h = tt
 apart-take (suc n) [] h = tt
-apart-take (suc n) (e ∷ es) h = (not_in _ (λ y. true≢false (sym (has_taken n es e.number y) ∙ h.0)), apart-take n es h.1)
+apart-take (suc n) (e ∷ es) h = (off _ (λ y. true≢false (sym (has_taken n es e.number y) ∙ h.0)), apart-take n es h.1)
 
 lacks_added : (es : List Extent) (e : Extent) (x : ℕ) → has_extent es x ≡ false → eqb e.number x ≡ false → has_extent (es ++ e ∷ []) x ≡ false
 lacks_added [] e x h f = rw f refl
@@ -32,12 +30,12 @@ apart-end : (es : List Extent) (e : Extent) → Apart es → has_extent es e.num
 apart-end [] e h f = (refl, tt)
 apart-end (x ∷ es) e h f =
     let p = or_parts (eqb x.number e.number) (has_extent es e.number) f in
-    (lacks_added es e x.number h.0 (not_in _ (λ y. eqb-false x.number e.number p.0 (sym (eqb-true e.number x.number y)))), apart-end es e h.1 p.1)
+    (lacks_added es e x.number h.0 (off _ (λ y. eqb-false x.number e.number p.0 (sym (eqb-true e.number x.number y)))), apart-end es e h.1 p.1)
 
 apart_step : (sh : Shape) (R : List Record) (r : Record) (o : ℕ) → IsNumber o → IsKindAllowed sh R r → Apart (extents_of R o) → Apart (extents_of (r ∷ R) o)
 apart_step sh R (Extend e) o n a h =
     elim (eqb e.obj o) as (λ v. Apart (cond v (extents_of R o ++ record { number = e.extent; incarnation = suc (length R) } ∷ []) (extents_of R o))) [
-      | true ↦ apart-end (extents_of R o) (record { number = e.extent; incarnation = suc (length R) }) h (not_in _ (λ y. free_has sh R o e.extent n a.extent.free y))
+      | true ↦ apart-end (extents_of R o) (record { number = e.extent; incarnation = suc (length R) }) h (off _ (λ y. free_has sh R o e.extent n a.extent.free y))
       | false ↦ h
     ]
 apart_step sh R (Lower l) o n a h = elim (eqb l.obj o) as (λ v. Apart (cond v (take l.kept (extents_of R o)) (extents_of R o))) [ true ↦ apart-take l.kept (extents_of R o) h | false ↦ h ]
@@ -55,19 +53,19 @@ Distinct (b ∷ bs) = (is_in b bs ≡ false) × Distinct bs
 
 distinct_range : (b n : ℕ) → Distinct (blocks_from b n)
 distinct_range b zero = tt
-distinct_range b (suc n) = (not_in _ (λ y. let r = in_range b (suc b) n y in absurd (omega (arith, r.0))), distinct_range (suc b) n)
+distinct_range b (suc n) = (off _ (λ y. let r = in_range b (suc b) n y in absurd (omega (arith, r.0))), distinct_range (suc b) n)
 
 distinct-append : (xs ys : List ℕ) → Distinct xs → Distinct ys → ((b : ℕ) → is_in b xs ≡ true → is_in b ys ≡ true → ⊥) → Distinct (xs ++ ys)
 distinct-append [] ys p q h = q
 distinct-append (x ∷ xs) ys p q h = (
-  not_in _ (λ y. elim (in_either x xs ys y) [ inl z ↦ true≢false (sym z ∙ p.0) | inr z ↦ h x (or_left (eqb x x) _ (eq-eqb x x refl)) z ]),
+  off _ (λ y. elim (in_either x xs ys y) [ inl z ↦ true≢false (sym z ∙ p.0) | inr z ↦ h x (or_left (eqb x x) _ (eq-eqb x x refl)) z ]),
   distinct-append xs ys p.1 q (λ b m. h b (or_right (eqb x b) _ m)),
 )
 
 distinct-take : (n : ℕ) (bs : List ℕ) → Distinct bs → Distinct (take n bs)
 distinct-take zero bs h = tt
 distinct-take (suc n) [] h = tt
-distinct-take (suc n) (b ∷ bs) h = (not_in _ (λ y. true≢false (sym (in_take b n bs y) ∙ h.0)), distinct-take n bs h.1)
+distinct-take (suc n) (b ∷ bs) h = (off _ (λ y. true≢false (sym (in_take b n bs y) ∙ h.0)), distinct-take n bs h.1)
 
 -- what is in a filter is in the list, and meets the test
 pub in_filter : (p : ℕ → Bool) (b : ℕ) (bs : List ℕ) → is_in b (filter p bs) ≡ true → (is_in b bs ≡ true) × (p b ≡ true)
@@ -93,7 +91,7 @@ distinct-filter : (p : ℕ → Bool) (bs : List ℕ) → Distinct bs → Distinc
 distinct-filter p [] h = tt
 distinct-filter p (b ∷ bs) h =
     elim (p b) as (λ v. Distinct (cond v (b ∷ filter p bs) (filter p bs))) [
-      | true ↦ (not_in _ (λ y. true≢false (sym (in_filter p b bs y).0 ∙ h.0)), distinct-filter p bs h.1)
+      | true ↦ (off _ (λ y. true≢false (sym (in_filter p b bs y).0 ∙ h.0)), distinct-filter p bs h.1)
       | false ↦ distinct-filter p bs h.1
     ]
 

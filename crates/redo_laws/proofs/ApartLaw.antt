@@ -8,8 +8,9 @@ use Rattle.redo_record.specs.declared.record.Record.{Record}
 use Rattle.redo_record.specs.declared.record.Record.TheVariants.{Extend, Lower}
 use Rattle.redo_model.specs.Segments.{Extent, extents_of, data_blocks, has_extent, is_taken}
 use Rattle.redo_model.specs.Lawful.{IsKindAllowed, AreAllowed}
+use Rattle.redo_laws.specs.Among.{is_in, MembershipIsTold}
 use Rattle.redo_laws.specs.Apart.{AreDistinct, ExtentsAreApart}
-use Rattle.redo_laws.proofs.Places.{is_in, in_contains, in_data, has_added, has_taken, segments, same_table, a_table}
+use Rattle.redo_laws.proofs.Places.{in_contains, contains_in, in_data, has_added, has_taken, segments, same_table, a_table}
 use Rattle.redo_laws.proofs.Apart.{Apart, apart_extents, Distinct, distinct_data}
 
 -- each extent is a whole one, and there are at most 900
@@ -56,7 +57,7 @@ pub placed : (sh : Shape) (R : List Record) (o : ℕ) → AreAllowed sh R → Pl
 placed sh [] o h = record { whole = λ x k. absurd (true≢false (sym k)); few = omega arith }
 placed sh (r ∷ R) o h = placed_step sh R r o h.1.kind (placed sh R o h.0)
 
-is_listed : (bs : List ℕ) (b : ℕ) → Contains bs b → is_in b bs ≡ true
+pub is_listed : (bs : List ℕ) (b : ℕ) → Contains bs b → is_in b bs ≡ true
 is_listed bs b c = in_contains bs b c.0 c.1 c.2
 
 are_distinct : (bs : List ℕ) → Distinct bs → AreDistinct bs
@@ -64,10 +65,10 @@ are_distinct [] h = tt
 are_distinct (b ∷ bs) h = ((λ c. true≢false (sym (is_listed bs b c) ∙ h.0)), are_distinct bs h.1)
 
 -- the numbers of extents
-abbrev numbers : List Extent → List ℕ
+abbrev pub numbers : List Extent → List ℕ
 numbers es = map (λ (e : Extent). e.number) es
 
-number_in : (es : List Extent) (x : ℕ) → is_in x (numbers es) ≡ has_extent es x
+pub number_in : (es : List Extent) (x : ℕ) → is_in x (numbers es) ≡ has_extent es x
 number_in [] x = refl
 number_in (e ∷ es) x = ap (λ v. eqb e.number x || v) (number_in es x)
 
@@ -95,3 +96,6 @@ extents_are_apart sh R h =
         once = λ o t. are_distinct (data_blocks sh R o) (distinct_data sh 0 (extents_of R o) (apart_extents sh R o h (a_table sh R o s t)));
       };
     }
+
+pub membership_is_told : MembershipIsTold
+membership_is_told b bs = record { contains = λ h. contains_in bs b h; is_there = λ c. is_listed bs b c }

@@ -17,10 +17,11 @@ use Rattle.redo_model.specs.Segments.{Extent, extents_of, blocks_from, data_of, 
 use Rattle.redo_model.specs.Kept.{kept_class, code_of, good_code, best_of, best_in_group, best_in_l2, best_of_found, best_in_l1}
 use Rattle.redo_model.specs.Undo.{Undone, undone_after, emptied_by, parts_size, undone, undo_parts, undo_used, current_undo, undo_sequence, has_holder, ring_after, next_undo}
 use Rattle.redo_model.specs.Lawful.{AreAllowed}
+use Rattle.redo_laws.specs.Among.{is_in}
 use Rattle.redo_laws.proofs.Every.{Every}
 use Rattle.redo_laws.proofs.AllKinds.{found_in}
 use Rattle.redo_laws.proofs.Economy.{size_of}
-use Rattle.redo_laws.proofs.Places.{is_in, in_either, in_range, in_data}
+use Rattle.redo_laws.proofs.Places.{in_either, in_range, in_data}
 use Rattle.redo_laws.proofs.ApartLaw.{placed}
 
 -- counts

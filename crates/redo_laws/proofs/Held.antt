@@ -12,6 +12,7 @@ use Rattle.redo_model.specs.Transactions.{is_active}
 use Rattle.redo_model.specs.Steps.{is_addr, is_by, without_step, standing_steps, standing, newest_of}
 use Rattle.redo_model.specs.Slots.{is_place}
 use Rattle.redo_model.specs.Versions.{Made, made_by, without, changed_makers, makers}
+use Rattle.redo_laws.specs.Economy.{EachStep}
 use Rattle.redo_laws.proofs.Every.{Every, every-map, every-filter, filter-all, filter-swap}
 use Rattle.redo_laws.proofs.OnTop.{addr_self, addr_same, without_own, off_none, OnTop, on_top_same, on_top_adds, on_top_without, on_top_formats}
 use Rattle.redo_laws.proofs.Facts.{MayOver, HeadOver, BegunBy, HeadSettled, EffectFits}
@@ -34,7 +35,7 @@ pub record Held (active : ℕ → Bool) (n : ℕ) (ss : List Step) (ms : ℕ →
   pub stand : (b k : ℕ) → Every (λ (m : Made). Stands ss m.by m.undo) (ms b k)
   pub top : (u : ℕ) → active u ≡ true → OnTop (own u ss) ms
 
-by_is : (w : Writer) (u : ℕ) → is_by w u ≡ true → w ≡ By u
+pub by_is : (w : Writer) (u : ℕ) → is_by w u ≡ true → w ≡ By u
 by_is (By v) u h = ap By (eqb-true v u h)
 by_is (At m) u h = absurd (true≢false (sym h))
 
@@ -181,3 +182,29 @@ effect_held R (TakesBack body) f h =
             subst (λ us. OnTop us (λ b k. without a (makers R b k))) (sym (filter-all _ (own u ss) (every-map _ _ _ (λ s x. ap not x) others))) (on_top_without (own u ss) a (makers R) others (h.top u on))
       ]);
     }
+
+-- of the newest step of a transaction
+
+pub newest_has : (P : Step → Type 0) (ss : List Step) (t : ℕ) (st : Step) → newest_of ss t ≡ Some st → Every P ss → P st
+newest_has P [] t st e h = absurd (let x : ◌≡◌ {A = Option Step} None (Some st) = e in cc)
+newest_has P (s ∷ ss) t st e h =
+    (elim (is_by s.by t) as (λ v. cond v (Some s) (newest_of ss t) ≡ Some st → P st) [
+      | true ↦ λ f. let same : s ≡ st = cc in subst P same h.0
+      | false ↦ λ f. newest_has P ss t st f h.1
+    ]) e
+
+pub newest_each : (P : Step → Type 0) (ss : List Step) (t : ℕ) (st : Step) → newest_of ss t ≡ Some st → EachStep P ss → P st
+newest_each P [] t st e h = absurd (let x : ◌≡◌ {A = Option Step} None (Some st) = e in cc)
+newest_each P (s ∷ ss) t st e h =
+    (elim (is_by s.by t) as (λ v. cond v (Some s) (newest_of ss t) ≡ Some st → P st) [
+      | true ↦ λ f. let same : s ≡ st = cc in subst P same h.0
+      | false ↦ λ f. newest_each P ss t st f h.1
+    ]) e
+
+pub newest_is_by : (ss : List Step) (t : ℕ) (st : Step) → newest_of ss t ≡ Some st → st.by ≡ By t
+newest_is_by [] t st e = absurd (let x : ◌≡◌ {A = Option Step} None (Some st) = e in cc)
+newest_is_by (s ∷ ss) t st e =
+    (elim (is_by s.by t) as (λ v. is_by s.by t ≡ v → cond v (Some s) (newest_of ss t) ≡ Some st → st.by ≡ By t) [
+      | true ↦ λ y f. let same : s ≡ st = cc in subst (λ (x : Step). x.by ≡ By t) same (by_is s.by t y)
+      | false ↦ λ y f. newest_is_by ss t st f
+    ]) refl e

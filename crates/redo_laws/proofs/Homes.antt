@@ -31,12 +31,13 @@ use Rattle.redo_model.specs.Blocks.{slots_of, is_vacant_block}
 use Rattle.redo_model.specs.Segments.{Extent, extents_of, in_extent, extent_data, data_of, data_blocks, high_mark, is_formatted, is_vacant, kept_length}
 use Rattle.redo_model.specs.AllowedTables.{FormatAllowed, LowerAllowed}
 use Rattle.redo_model.proofs.Bridge.{image_is}
+use Rattle.redo_laws.specs.Among.{is_in}
 use Rattle.redo_laws.specs.Homes.{row_table}
 use Rattle.redo_laws.proofs.Known.{Turn}
 use Rattle.redo_laws.proofs.Held.{Held, Stands, own_newest}
 use Rattle.redo_laws.proofs.Spread.{by_of}
 use Rattle.redo_laws.proofs.Links.{LinksIn, settled_head, clean_keeps, stands_begun, done_turn}
-use Rattle.redo_laws.proofs.Places.{is_in, in_left, in_right, in_either, in_take, IsNumber, Segments, same_table, a_table, extend_data, extend_keeps, format_first, lower_data}
+use Rattle.redo_laws.proofs.Places.{in_left, in_right, in_either, in_take, IsNumber, Segments, same_table, a_table, extend_data, extend_keeps, format_first, lower_data}
 use Rattle.redo_laws.proofs.Shapes.{Present, Replaces, AllPut, StepShape, named_part}
 
 -- row n was made, in table o

@@ -46,3 +46,8 @@ pub mod SpelledLaw
 pub mod SoundLaw
 pub mod ReadsLaw
 pub mod WritersLaw
+pub mod Among
+pub mod Prefixes
+pub mod Since
+pub mod Bools
+pub mod ImageFacts

@@ -79,12 +79,12 @@ data_of-append sh i (e ∷ es) fs =
     ∙ sym (append_assoc (blocks_from (first_block sh e.number + head_blocks i) (sh.extent - head_blocks i)) (data_of sh (suc i) es) (data_of sh (i + suc (length es)) fs))
 
 -- what holds of the marks and the data blocks of a table, where R is lawful
-record LowOf (sh : Shape) (R : List Record) (m : Marks) (bs : List ℕ) : Type 0 where
-  formatted : first_unformatted sh R (take m.low bs) ≡ None
-  order : m.low ≤ m.high
-  within : m.high ≤ length bs
+pub record LowOf (sh : Shape) (R : List Record) (m : Marks) (bs : List ℕ) : Type 0 where
+  pub formatted : first_unformatted sh R (take m.low bs) ≡ None
+  pub order : m.low ≤ m.high
+  pub within : m.high ≤ length bs
 
-abbrev Low : Shape → List Record → ℕ → Type 0
+abbrev pub Low : Shape → List Record → ℕ → Type 0
 Low sh R o = LowOf sh R (marks R o) (data_blocks sh R o)
 
 pub free_of : (R : List Record) (n o x : ℕ) → is_taken R n x ≡ false → 1 ≤ o → o ≤ n → has_extent (extents_of R o) x ≡ false
@@ -182,7 +182,7 @@ step_low sh R (Advance m) o one most h a = advance_low sh R m o h a
 step_low sh R (Lower l) o one most h a = lower_low sh R l o h a
 step_low sh R _ o one most h a = record { formatted = h.formatted; order = h.order; within = h.within }
 
-low : (sh : Shape) (R : List Record) (o : ℕ) → AreAllowed sh R → 1 ≤ o → o ≤ 32 → Low sh R o
+pub low : (sh : Shape) (R : List Record) (o : ℕ) → AreAllowed sh R → 1 ≤ o → o ≤ 32 → Low sh R o
 low sh [] o h one most = record { formatted = refl; order = omega arith; within = omega arith }
 low sh (r ∷ R) o h one most = step_low sh R r o one most (low sh R o h.0 one most) h.1.kind
 

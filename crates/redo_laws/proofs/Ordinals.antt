@@ -7,7 +7,7 @@ use Rattle.redo_record.specs.declared.record.Record.TheVariants.{Insert, Begin, 
 use Rattle.redo_model.specs.Ordinals.{is_commit, is_insert, is_begin, is_lower, count_of}
 use Rattle.redo_model.specs.AllowedMoves.{MoveAllowed, moves_plain, moves_to_body, moves_migrated}
 use Rattle.redo_model.specs.Lawful.{IsKindAllowed}
-use Rattle.redo_laws.specs.Numbers.{row_given, txn_given, commit_given, lowering_given, one_if, times_given, GivenOnce, NumbersAreGivenOnce}
+use Rattle.redo_laws.specs.Numbers.{row_given, txn_given, commit_given, lowering_given, one_if, times_given, GivenOnce, NumbersAreGivenOnce, NumbersAreGivenInOrder}
 
 -- a record of the kind gives the next number, and no other record gives one
 record Gives (given : Option ℕ) (counted : Bool) (count : ℕ) : Type 0 where
@@ -82,3 +82,15 @@ numbers_are_given_once sh (r ∷ R) h =
       commits = once_more commit_given is_commit R r (gives_commit sh R r a) was.commits;
       lowerings = once_more lowering_given is_lower R r (gives_lowering sh R r a) was.lowerings;
     }
+
+gives_only : (given : Option ℕ) (counted : Bool) (count n : ℕ) → Gives given counted count → given ≡ Some n → n ≡ suc count
+gives_only given true count n g e = let x : ◌≡◌ {A = Option ℕ} (Some n) (Some (suc count)) = sym e ∙ g.next refl in cc
+gives_only given false count n g e = absurd (let x : ◌≡◌ {A = Option ℕ} None (Some n) = sym (g.nothing refl) ∙ e in cc)
+
+pub numbers_are_given_in_order : NumbersAreGivenInOrder
+numbers_are_given_in_order sh R r h = record {
+  row = λ n e. gives_only (row_given r) (is_insert r) (count_of is_insert R) n (gives_row sh R r h.1.kind) e;
+  txn = λ n e. gives_only (txn_given r) (is_begin r) (count_of is_begin R) n (gives_txn sh R r h.1.kind) e;
+  commit = λ n e. gives_only (commit_given r) (is_commit r) (count_of is_commit R) n (gives_commit sh R r h.1.kind) e;
+  lowering = λ n e. gives_only (lowering_given r) (is_lower r) (count_of is_lower R) n (gives_lowering sh R r h.1.kind) e;
+}

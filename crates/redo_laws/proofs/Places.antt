@@ -1,5 +1,5 @@
 -- Which blocks a table has: extents are of one table each, and formatted data blocks lie under the high mark.
-use Rattle.std.proofs.Common.{◌≡◌, ◌⊎◌, ℕ, zero, suc, ◌+◌, ◌-◌, ◌<◌, ◌≤◌, min, Bool, true, false, cond, not, ◌||◌, eqb, leb, List, [], ◌∷◌, ◌++◌, length, take, drop, Option, Some, None, refl, sym, ◌∙◌, ap, subst, arith, inl, inr, le_trans}
+use Rattle.std.proofs.Common.{◌≡◌, ◌⊎◌, ℕ, zero, suc, ◌+◌, ◌-◌, ◌<◌, ◌≤◌, min, true, false, cond, not, ◌||◌, eqb, leb, List, [], ◌∷◌, ◌++◌, length, take, drop, Option, Some, None, refl, sym, ◌∙◌, ap, subst, arith, inl, inr, le_trans}
 use Rattle.std.proofs.lemmas.Bool.{eqb-true, eqb-false, cond-true, cond-false, true≢false, cases_Bool, eq-eqb, and_parts, and_from, or_cases, or_left, or_right, lt-ltb, le-leb, leb-true, leb-false, not-true}
 use Rattle.seg_base.specs.declared.shape.Shape.{Shape}
 use Rattle.redo_record.specs.declared.record.Record.{Record}
@@ -15,11 +15,8 @@ use Rattle.redo_record.specs.declared.space.AdvanceRecord.{AdvanceRecord}
 use Rattle.redo_record.specs.declared.space.LowerRecord.{LowerRecord}
 use Rattle.redo_model.specs.Segments.{Extent, extents_of, in_extent, blocks_from, extent_data, data_of, data_blocks, high_mark, marks, under_high, is_formatted, IsTable, table_count, has_extent, is_taken, is_free_extent, first_unformatted}
 use Rattle.redo_model.specs.AllowedTables.{ExtendAllowed, FormatAllowed, AdvanceAllowed, LowerAllowed}
+use Rattle.redo_laws.specs.Among.{is_in}
 use Rattle.redo_laws.proofs.LowMark.{apart, free_of, data_of-append}
-
-abbrev pub is_in : ℕ → List ℕ → Bool
-is_in b [] = false
-is_in b (x ∷ xs) = eqb x b || is_in b xs
 
 pub in_contains : (bs : List ℕ) (b k : ℕ) → k < length bs → slice_index_or bs k b ≡ b → is_in b bs ≡ true
 in_contains [] b k l e = absurd (omega arith)

@@ -52,14 +52,14 @@ abbrev pub size_at : (ℕ → Bool) → (ℕ → Slot) → ℕ → ℕ
 size_at ended im k = 40 + row_size ended (im k)
 
 -- the count of a block as a sum over its places
-used_is : (ended : ℕ → Bool) (R : List Record) (b : ℕ) → used_by ended (block_of R b) ≡ sum_below (slot_count R b) (size_at ended (image R b)) + 24 * (entry_count R b - 2)
+pub used_is : (ended : ℕ → Bool) (R : List Record) (b : ℕ) → used_by ended (block_of R b) ≡ sum_below (slot_count R b) (size_at ended (image R b)) + 24 * (entry_count R b - 2)
 used_is ended R b =
     let slots : sum_by (slot_size ended) (slots_of R b) ≡ sum_below (slot_count R b) (size_at ended (image R b)) =
     sum_places (slot_size ended) new_slot (slots_of R b) ∙ ap (λ n. sum_below n (λ k. slot_size ended (get_or (slots_of R b) k new_slot))) (count_is R b)
     ∙ sum_same (slot_count R b) (λ k. slot_size ended (get_or (slots_of R b) k new_slot)) (size_at ended (image R b)) (λ k. ap (slot_size ended) (image_is R b k)) in
     ap₂ (λ x y. x + 24 * (y - 2)) slots (entry_count_is R b)
 
-page_is : (R : List Record) (b : ℕ) → page_size R b ≡ sum_below (slot_count R b) (λ k. 40 + length (image R b k).bytes) + 24 * (entry_count R b - 2)
+pub page_is : (R : List Record) (b : ℕ) → page_size R b ≡ sum_below (slot_count R b) (λ k. 40 + length (image R b k).bytes) + 24 * (entry_count R b - 2)
 page_is R b =
     let slots : sum_by (λ (s : Slot). 40 + length s.bytes) (slots_of R b) ≡ sum_below (slot_count R b) (λ k. 40 + length (image R b k).bytes) =
     sum_places (λ (s : Slot). 40 + length s.bytes) new_slot (slots_of R b) ∙ ap (λ n. sum_below n (λ k. 40 + length (get_or (slots_of R b) k new_slot).bytes)) (count_is R b)
@@ -77,7 +77,7 @@ abbrev pub RoomIn : List Record → ℕ → Type 0
 RoomIn R b = Room (ended_in R) (slot_count R b) (entry_count R b) (image R b)
 
 -- fewer slots that count less
-room_less : (e f : ℕ → Bool) (n p m : ℕ) (im jm : ℕ → Slot) → p ≤ n → ((k : ℕ) → k < n → row_size f (jm k) ≤ row_size e (im k)) → Room e n m im → Room f p m jm
+pub room_less : (e f : ℕ → Bool) (n p m : ℕ) (im jm : ℕ → Slot) → p ≤ n → ((k : ℕ) → k < n → row_size f (jm k) ≤ row_size e (im k)) → Room e n m im → Room f p m jm
 room_less e f n p m im jm l h r = record {
   used = (let a = sum_more p n (size_at f jm) l in let b = sum_less n (size_at f jm) (size_at e im) (λ k x. let y = h k x in omega arith) in let c = r.used in omega arith);
   entries_from = r.entries_from;
@@ -87,14 +87,14 @@ room_less e f n p m im jm l h r = record {
 
 -- sizes of single images
 
-size_ended : (e : ℕ → Bool) (i : Slot) → writer_has_ended e i.writer ≡ true → row_size e i ≡ length i.bytes
+pub size_ended : (e : ℕ → Bool) (i : Slot) → writer_has_ended e i.writer ≡ true → row_size e i ≡ length i.bytes
 size_ended e i h = cond-true (writer_has_ended e i.writer) (length i.bytes) i.room h
 
-size_active : (e : ℕ → Bool) (i : Slot) → writer_has_ended e i.writer ≡ false → row_size e i ≡ i.room
+pub size_active : (e : ℕ → Bool) (i : Slot) → writer_has_ended e i.writer ≡ false → row_size e i ≡ i.room
 size_active e i h = cond-false (writer_has_ended e i.writer) (length i.bytes) i.room h
 
 -- an active writer's image has room for its row
-own_room : (active : ℕ → Bool) (n : ℕ) (ss : List Step) (i : Slot) (ms : List Made) → Linked active n ss i ms → writer_has_ended (λ t. not (active t)) i.writer ≡ false → length i.bytes ≤ i.room
+pub own_room : (active : ℕ → Bool) (n : ℕ) (ss : List Step) (i : Slot) (ms : List Made) → Linked active n ss i ms → writer_has_ended (λ t. not (active t)) i.writer ≡ false → length i.bytes ≤ i.room
 own_room active n ss i [] h e = absurd (true≢false (ap (writer_has_ended (λ t. not (active t))) (sym h.writer) ∙ e))
 own_room active n ss i (m ∷ ms) h e = go i.writer refl h.0.writer
   where
@@ -104,7 +104,7 @@ own_room active n ss i (m ∷ ms) h e = go i.writer refl h.0.writer
     go (By u) f (inr y) = absurd (let x : By u ≡ At y.0 = y.1 in cc)
 
 -- where more have ended it counts no more
-size_falls : (e f : ℕ → Bool) (i : Slot) → (writer_has_ended e i.writer ≡ true → writer_has_ended f i.writer ≡ true) → (writer_has_ended e i.writer ≡ false → length i.bytes ≤ i.room) → row_size f i ≤ row_size e i
+pub size_falls : (e f : ℕ → Bool) (i : Slot) → (writer_has_ended e i.writer ≡ true → writer_has_ended f i.writer ≡ true) → (writer_has_ended e i.writer ≡ false → length i.bytes ≤ i.room) → row_size f i ≤ row_size e i
 size_falls e f i h own = elim (cases_Bool (writer_has_ended e i.writer)) [
   | inl y ↦ (let a = size_ended e i y in let b = size_ended f i (h y) in omega arith)
   | inr n ↦ elim (cases_Bool (writer_has_ended f i.writer)) [
@@ -113,7 +113,7 @@ size_falls e f i h own = elim (cases_Bool (writer_has_ended e i.writer)) [
   ]
 ]
 
-length_within : (e : ℕ → Bool) (i : Slot) → (writer_has_ended e i.writer ≡ false → length i.bytes ≤ i.room) → length i.bytes ≤ row_size e i
+pub length_within : (e : ℕ → Bool) (i : Slot) → (writer_has_ended e i.writer ≡ false → length i.bytes ≤ i.room) → length i.bytes ≤ row_size e i
 length_within e i own = elim (cases_Bool (writer_has_ended e i.writer)) [
   | inl y ↦ (let a = size_ended e i y in omega arith)
   | inr n ↦ (let a = size_active e i n in let c = own n in omega arith)
@@ -148,7 +148,7 @@ clean_size active cs i done = go (number_of_writer cs i.writer) refl
 
 -- a taking back
 
-back_size : (active : ℕ → Bool) (n : ℕ) (ss : List Step) (st : Step) (u i : ℕ) (ps : List RowPart) (b k : ℕ) (im : Slot) (ms : List Made) → st.by ≡ By u → active u ≡ true → Linked active n ss im (made_by st i ps b k ms)
+pub back_size : (active : ℕ → Bool) (n : ℕ) (ss : List Step) (st : Step) (u i : ℕ) (ps : List RowPart) (b k : ℕ) (im : Slot) (ms : List Made) → st.by ≡ By u → active u ≡ true → Linked active n ss im (made_by st i ps b k ms)
     → row_size (λ t. not (active t)) (placed_in (restored (taken_back ps)) b k im) ≤ row_size (λ t. not (active t)) im
 back_size active n ss st u i [] b k im ms by on h = le_refl _
 back_size active n ss st u i (p ∷ ps) b k im ms by on h =
@@ -170,7 +170,7 @@ back_size active n ss st u i (p ∷ ps) b k im ms by on h =
     live w v (inr y) e = absurd (true≢false (sym on ∙ y.2 u e))
 
 -- how many slots there are when these are put
-reach_bound : (ps : List Placed) (b n m : ℕ) → Every (λ (p : Placed). p.dba ≡ b → p.slot < m) ps → n ≤ m → slots_reached ps b n ≤ m
+pub reach_bound : (ps : List Placed) (b n m : ℕ) → Every (λ (p : Placed). p.dba ≡ b → p.slot < m) ps → n ≤ m → slots_reached ps b n ≤ m
 reach_bound [] b n m h l = l
 reach_bound (p ∷ ps) b n m h l =
     (elim (eqb p.dba b) as (λ v. eqb p.dba b ≡ v → cond v (max (suc p.slot) (slots_reached ps b n)) (slots_reached ps b n) ≤ m) [
@@ -223,27 +223,35 @@ room_back R t b f h l r =
 -- a step
 
 -- the first part that names a slot
-record FirstPart (R : List Record) (st : Step) (Q : RowPart → Type 0) (b k : ℕ) (im new : Slot) : Type 0 where
-  part : RowPart
-  place : ℕ
-  puts : Puts R st place part
-  fact : Q part
-  new_is : new ≡ part.new
-  old_is : part.old ≡ image R b k
-  block : part.dba ≡ b
-  slot : part.slot ≡ k
+-- a part puts what its place among those of the step asks for
+abbrev pub PutSome : List Record → Step → RowPart → Type 0
+PutSome R st p = (i : ℕ) × Puts R st i p
 
-first_part : (R : List Record) (st : Step) (Q : RowPart → Type 0) (i : ℕ) (ps : List RowPart) (b k : ℕ) (im : Slot) → AllPut R st i ps → Every Q ps → StatesOld R ps → is_named ps b k ≡ true → FirstPart R st Q b k im (placed_in (written ps) b k im)
-first_part R st Q i [] b k im pu f o h = absurd (true≢false (sym h))
-first_part R st Q i (p ∷ ps) b k im pu f o h =
+pub put_some : (R : List Record) (st : Step) (i : ℕ) (ps : List RowPart) → AllPut R st i ps → Every (PutSome R st) ps
+put_some R st i [] h = tt
+put_some R st i (p ∷ ps) h = ((i, h.0), put_some R st (suc i) ps h.1)
+
+pub record FirstPart (R : List Record) (st : Step) (Q : RowPart → Type 0) (b k : ℕ) (im new : Slot) : Type 0 where
+  pub part : RowPart
+  pub place : ℕ
+  pub puts : Puts R st place part
+  pub fact : Q part
+  pub new_is : new ≡ part.new
+  pub old_is : part.old ≡ image R b k
+  pub block : part.dba ≡ b
+  pub slot : part.slot ≡ k
+
+pub first_part : (R : List Record) (st : Step) (Q : RowPart → Type 0) (ps : List RowPart) (b k : ℕ) (im : Slot) → Every (PutSome R st) ps → Every Q ps → StatesOld R ps → is_named ps b k ≡ true → FirstPart R st Q b k im (placed_in (written ps) b k im)
+first_part R st Q [] b k im pu f o h = absurd (true≢false (sym h))
+first_part R st Q (p ∷ ps) b k im pu f o h =
     (elim (is_place p.dba p.slot b k) as (λ v. is_place p.dba p.slot b k ≡ v → (v || is_named ps b k) ≡ true → FirstPart R st Q b k im (cond v p.new (placed_in (written ps) b k im))) [
       | true ↦ λ e x. let q = and_parts (eqb p.dba b) (eqb p.slot k) e in
-          record { part = p; place = i; puts = pu.0; fact = f.0; new_is = refl; old_is = o.0 ∙ ap₂ (image R) (eqb-true p.dba b q.0) (eqb-true p.slot k q.1); block = eqb-true p.dba b q.0; slot = eqb-true p.slot k q.1 }
-      | false ↦ λ e x. first_part R st Q (suc i) ps b k im pu.1 f.1 o.1 x
+          record { part = p; place = pu.0.0; puts = pu.0.1; fact = f.0; new_is = refl; old_is = o.0 ∙ ap₂ (image R) (eqb-true p.dba b q.0) (eqb-true p.slot k q.1); block = eqb-true p.dba b q.0; slot = eqb-true p.slot k q.1 }
+      | false ↦ λ e x. first_part R st Q ps b k im pu.1 f.1 o.1 x
     ]) refl h
 
 -- the image that a part puts counts at most what is longer of the two
-put_size : (R : List Record) (st : Step) (i : ℕ) (p : RowPart) → ((u : ℕ) → st.by ≡ By u → is_active R u ≡ true) → Puts R st i p → row_size (ended_in R) p.new ≤ max (row_size (ended_in R) p.old) (length p.new.bytes)
+pub put_size : (R : List Record) (st : Step) (i : ℕ) (p : RowPart) → ((u : ℕ) → st.by ≡ By u → is_active R u ≡ true) → Puts R st i p → row_size (ended_in R) p.new ≤ max (row_size (ended_in R) p.old) (length p.new.bytes)
 put_size R st i p live pu = go st.by refl
   where
     go : (w : Writer) → st.by ≡ w → row_size (ended_in R) p.new ≤ max (row_size (ended_in R) p.old) (length p.new.bytes)
@@ -251,28 +259,28 @@ put_size R st i p live pu = go st.by refl
     go (At m) e = (let a = size_ended (ended_in R) p.new (ap (writer_has_ended (ended_in R)) (pu.writer ∙ e)) in omega arith)
 
 -- what a slot counts after a step
-abbrev after : List Record → Step → ℕ → ℕ → Slot
+abbrev pub after : List Record → Step → ℕ → ℕ → Slot
 after R st b k = placed_in (written st.parts) b k (image R b k)
 
 quiet_size : (R : List Record) (st : Step) (i b k : ℕ) (p : RowPart) → ((u : ℕ) → st.by ≡ By u → is_active R u ≡ true) → Puts R st i p → Quiet R p → p.old ≡ image R b k → row_size (ended_in R) p.new ≤ row_size (ended_in R) (image R b k)
 quiet_size R st i b k p live pu q o = (let a = put_size R st i p live pu in let c = q.less in let e : row_size (ended_in R) p.old ≡ row_size (ended_in R) (image R b k) = ap (row_size (ended_in R)) o in omega arith)
 
 -- where all is quiet
-all_quiet : (R : List Record) (st : Step) (b k : ℕ) → ((u : ℕ) → st.by ≡ By u → is_active R u ≡ true) → AllPut R st 0 st.parts → StatesOld R st.parts → Every (Quiet R) st.parts → row_size (ended_in R) (after R st b k) ≤ row_size (ended_in R) (image R b k)
+all_quiet : (R : List Record) (st : Step) (b k : ℕ) → ((u : ℕ) → st.by ≡ By u → is_active R u ≡ true) → Every (PutSome R st) st.parts → StatesOld R st.parts → Every (Quiet R) st.parts → row_size (ended_in R) (after R st b k) ≤ row_size (ended_in R) (image R b k)
 all_quiet R st b k live pu o q =
     elim (cases_Bool (is_named st.parts b k)) [
       | inr n ↦ subst (λ i. row_size (ended_in R) i ≤ row_size (ended_in R) (image R b k)) (sym (new_left st.parts b k (image R b k) n)) (le_refl _)
-      | inl y ↦ let f = first_part R st (Quiet R) 0 st.parts b k (image R b k) pu q o y in
+      | inl y ↦ let f = first_part R st (Quiet R) st.parts b k (image R b k) pu q o y in
           subst (λ i. row_size (ended_in R) i ≤ row_size (ended_in R) (image R b k)) (sym f.new_is) (quiet_size R st f.place b k f.part live f.puts f.fact f.old_is)
     ]
 
 -- beside the one that grows
-others_quiet : (R : List Record) (st : Step) (b k : ℕ) (g : RowPart) → ((u : ℕ) → st.by ≡ By u → is_active R u ≡ true) → AllPut R st 0 st.parts → StatesOld R st.parts → Every (λ (p : RowPart). Quiet R p ⊎ (p ≡ g)) st.parts
+others_quiet : (R : List Record) (st : Step) (b k : ℕ) (g : RowPart) → ((u : ℕ) → st.by ≡ By u → is_active R u ≡ true) → Every (PutSome R st) st.parts → StatesOld R st.parts → Every (λ (p : RowPart). Quiet R p ⊎ (p ≡ g)) st.parts
     → (g.dba ≡ b → g.slot ≡ k → ⊥) → row_size (ended_in R) (after R st b k) ≤ row_size (ended_in R) (image R b k)
 others_quiet R st b k g live pu o q ne =
     elim (cases_Bool (is_named st.parts b k)) [
       | inr n ↦ subst (λ i. row_size (ended_in R) i ≤ row_size (ended_in R) (image R b k)) (sym (new_left st.parts b k (image R b k) n)) (le_refl _)
-      | inl y ↦ let f = first_part R st (λ (p : RowPart). Quiet R p ⊎ (p ≡ g)) 0 st.parts b k (image R b k) pu q o y in
+      | inl y ↦ let f = first_part R st (λ (p : RowPart). Quiet R p ⊎ (p ≡ g)) st.parts b k (image R b k) pu q o y in
           subst (λ i. row_size (ended_in R) i ≤ row_size (ended_in R) (image R b k)) (sym f.new_is) (elim f.fact [
             | inl z ↦ quiet_size R st f.place b k f.part live f.puts z f.old_is
             | inr z ↦ absurd (ne (ap (λ (p : RowPart). p.dba) (sym z) ∙ f.block) (ap (λ (p : RowPart). p.slot) (sym z) ∙ f.slot))
@@ -280,12 +288,12 @@ others_quiet R st b k g live pu o q ne =
     ]
 
 -- the one that grows
-grown_size : (R : List Record) (st : Step) (g : RowPart) → ((u : ℕ) → st.by ≡ By u → is_active R u ≡ true) → AllPut R st 0 st.parts → StatesOld R st.parts → Every (λ (p : RowPart). Quiet R p ⊎ (p ≡ g)) st.parts
+grown_size : (R : List Record) (st : Step) (g : RowPart) → ((u : ℕ) → st.by ≡ By u → is_active R u ≡ true) → Every (PutSome R st) st.parts → StatesOld R st.parts → Every (λ (p : RowPart). Quiet R p ⊎ (p ≡ g)) st.parts
     → row_size (ended_in R) (after R st g.dba g.slot) ≤ max (row_size (ended_in R) (image R g.dba g.slot)) (length g.new.bytes)
 grown_size R st g live pu o q =
     elim (cases_Bool (is_named st.parts g.dba g.slot)) [
       | inr n ↦ subst (λ i. row_size (ended_in R) i ≤ max (row_size (ended_in R) (image R g.dba g.slot)) (length g.new.bytes)) (sym (new_left st.parts g.dba g.slot (image R g.dba g.slot) n)) (omega arith)
-      | inl y ↦ let f = first_part R st (λ (p : RowPart). Quiet R p ⊎ (p ≡ g)) 0 st.parts g.dba g.slot (image R g.dba g.slot) pu q o y in
+      | inl y ↦ let f = first_part R st (λ (p : RowPart). Quiet R p ⊎ (p ≡ g)) st.parts g.dba g.slot (image R g.dba g.slot) pu q o y in
           subst (λ i. row_size (ended_in R) i ≤ max (row_size (ended_in R) (image R g.dba g.slot)) (length g.new.bytes)) (sym f.new_is) (elim f.fact [
             | inl z ↦ (let a = quiet_size R st f.place g.dba g.slot f.part live f.puts z f.old_is in omega arith)
             | inr z ↦ (let a = put_size R st f.place f.part live f.puts in
@@ -373,7 +381,7 @@ cost_fits R st b x y r c new free l = elim c.cost [
 entries_more : (R : List Record) (st : Step) (b : ℕ) → RoomIn R b → EntryCost R st.by b (entry_count R b) (count_entered st.by st.parts b (entry_count R b)) → 2 ≤ count_entered st.by st.parts b (entry_count R b)
 entries_more R st b r c = elim c.cost [ inl e ↦ (let m = r.entries_from in omega arith) | inr e ↦ (let z = e.3 in let m = r.entries_from in omega arith) ]
 
-abbrev RoomAfter : List Record → Step → ℕ → Type 0
+abbrev pub RoomAfter : List Record → Step → ℕ → Type 0
 RoomAfter R st b = Room (ended_in R) (slots_reached (written st.parts) b (slot_count R b)) (count_entered st.by st.parts b (entry_count R b)) (after R st b)
 
 -- where nothing grows
@@ -431,7 +439,7 @@ fits_parts e b k len (Some x) h = (x, refl, leb-true (row_growth e b k len + x) 
 same_txn : (t u : ℕ) → By t ≡ By u → t ≡ u
 same_txn t u e = cc
 
-fitted_room : (R : List Record) (st : Step) (g : RowPart) → RoomIn R g.dba → ((u : ℕ) → st.by ≡ By u → is_active R u ≡ true) → AllPut R st 0 st.parts → StatesOld R st.parts
+fitted_room : (R : List Record) (st : Step) (g : RowPart) → RoomIn R g.dba → ((u : ℕ) → st.by ≡ By u → is_active R u ≡ true) → Every (PutSome R st) st.parts → StatesOld R st.parts
     → Every (λ (p : RowPart). Quiet R p ⊎ (p ≡ g)) st.parts → Enter R st.by st.parts → Fitted R st g → RoomAfter R st g.dba
 fitted_room R st g r live pu o q en f =
     let b = g.dba in
@@ -452,7 +460,7 @@ fitted_room R st g r live pu o q en f =
     slot_in p (inl z) e = subst (λ y. p.slot < slot_count R y) e z.there
     slot_in p (inr z) e = subst (λ y. y < slot_count R g.dba) (ap (λ (q : RowPart). q.slot) (sym z)) f.there
 
-taken_room : (R : List Record) (st : Step) (g : RowPart) → RoomIn R g.dba → ((u : ℕ) → st.by ≡ By u → is_active R u ≡ true) → AllPut R st 0 st.parts → StatesOld R st.parts
+taken_room : (R : List Record) (st : Step) (g : RowPart) → RoomIn R g.dba → ((u : ℕ) → st.by ≡ By u → is_active R u ≡ true) → Every (PutSome R st) st.parts → StatesOld R st.parts
     → Every (λ (p : RowPart). Quiet R p ⊎ (p ≡ g)) st.parts → Enter R st.by st.parts → Taken R st g → RoomAfter R st g.dba
 taken_room R st g r live pu o q en f =
     let b = g.dba in
@@ -494,7 +502,7 @@ taken_room R st g r live pu o q en f =
         let open' : f.taker ≡ Open t = subst (λ x. IsTaker x f.taker) e f.whose in
         new_is_24 (ended_in R) (block_of R g.dba) (entry_for (ended_in R) (block_of R g.dba) t) (entry_count R g.dba) w.entry (ap (entry_need (ended_in R) (block_of R g.dba)) (sym open') ∙ w.entry_is) h (entry_count_is R g.dba)
 
-pub room_adds : (sh : Shape) (R : List Record) (st : Step) (b : ℕ) → ((c : ℕ) → RoomIn R c) → ((u : ℕ) → st.by ≡ By u → is_active R u ≡ true) → AllPut R st 0 st.parts → StatesOld R st.parts → StepRoom R st → RoomAfter R st b
+pub room_adds : (sh : Shape) (R : List Record) (st : Step) (b : ℕ) → ((c : ℕ) → RoomIn R c) → ((u : ℕ) → st.by ≡ By u → is_active R u ≡ true) → Every (PutSome R st) st.parts → StatesOld R st.parts → StepRoom R st → RoomAfter R st b
 room_adds sh R st b r live pu o x = elim x.rooms [
   | inl q ↦ quiet_room R st b (r b) (cost_of R st.by b st.parts x.entries (r b).entries_to)
       (reach_bound (written st.parts) b (slot_count R b) (slot_count R b) (each_written (λ d k. d ≡ b → k < slot_count R b) st.parts (every-map _ _ st.parts (λ p z e. subst (λ y. p.slot < slot_count R y) e z.there) q)) (le_refl _))
@@ -573,7 +581,7 @@ room_effect : (sh : Shape) (R : List Record) (ef : Effect) → EffectFits R ef �
 room_effect sh R Still f l x h y r b = r b
 room_effect sh R (Formats d) f l x h y r b =
     elim (eqb d b) as (λ v. Room (ended_in R) (cond v 0 (slot_count R b)) (cond v 2 (entry_count R b)) (λ k. cond v new_slot (image R b k))) [ true ↦ room_formats (ended_in R) (λ k. new_slot) | false ↦ r b ]
-room_effect sh R (Adds st) f l x h y r b = room_adds sh R st b r f.live x.1 f.old x.0
+room_effect sh R (Adds st) f l x h y r b = room_adds sh R st b r f.live (put_some R st 0 st.parts x.1) f.old x.0
 room_effect sh R (TakesBack t) f l x h y r b = room_back R t b f h y (r b)
 room_effect sh R (Cleans d cs) f l x h y r b =
     elim (eqb d b) as (λ v. Room (ended_in R) (slot_count R b) (entry_count R b) (λ k. cond v (clean_slot cs (image R b k)) (image R b k))) [

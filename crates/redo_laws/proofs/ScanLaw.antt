@@ -10,17 +10,19 @@ use Rattle.redo_model.specs.Slots.{slot_count}
 use Rattle.redo_model.specs.Versions.{row_at, rows_at, found_below}
 use Rattle.redo_model.specs.Segments.{IsTable, IsRowBlock, is_formatted, under_high}
 use Rattle.redo_model.specs.Lawful.{AreAllowed}
+use Rattle.redo_laws.specs.Among.{is_in}
 use Rattle.redo_laws.specs.Scan.{scan_list, scanned, numbered, IsReadAfter, ScansAreWhole}
 use Rattle.redo_laws.specs.Views.{IsOpen}
-use Rattle.redo_laws.proofs.Places.{is_in, in_contains, contains_in, segments, a_table}
-use Rattle.redo_laws.proofs.Apart.{not_in, Distinct, in_filter, filter_has, distinct_scan}
+use Rattle.redo_laws.proofs.Bools.{off}
+use Rattle.redo_laws.proofs.Places.{in_contains, contains_in, segments, a_table}
+use Rattle.redo_laws.proofs.Apart.{Distinct, in_filter, filter_has, distinct_scan}
 use Rattle.redo_laws.proofs.SpreadLaw.{slot_there, rows_are_spread}
 use Rattle.redo_laws.proofs.StaysLaw.{blocks_stay}
 use Rattle.redo_laws.proofs.InOrder.{numbered-append, ordered_view}
 
 -- a row that has another number
 other_row : (n : ℕ) (p : ℕ × List ℕ) → (◌≡◌ {A = Option (ℕ × List ℕ)} (Some p) (Some (n, p.1)) → ⊥) → numbered n (p ∷ []) ≡ []
-other_row n p h = cond-false _ _ _ (not_in _ (λ y. h (ap (λ z. Some (z, p.1)) (eqb-true p.0 n y))))
+other_row n p h = cond-false _ _ _ (off _ (λ y. h (ap (λ z. Some (z, p.1)) (eqb-true p.0 n y))))
 
 none_found : (f : ℕ → Option (ℕ × List ℕ)) (m n : ℕ) → ((k : ℕ) (x : List ℕ) → k < m → f k ≡ Some (n, x) → ⊥) → numbered n (found_below f m) ≡ []
 none_found f zero n h = refl

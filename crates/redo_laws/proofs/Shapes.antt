@@ -28,7 +28,8 @@ use Rattle.redo_model.specs.Blocks.{slots_of}
 use Rattle.redo_model.specs.Segments.{data_blocks, is_formatted, high_mark, IsRowBlock, IsTable}
 use Rattle.redo_model.specs.AllowedRows.{next_slot}
 use Rattle.redo_model.proofs.Bridge.{image_is}
-use Rattle.redo_laws.proofs.Places.{is_in, in_contains, in_take, IsNumber, Segments, a_table}
+use Rattle.redo_laws.specs.Among.{is_in}
+use Rattle.redo_laws.proofs.Places.{in_contains, in_take, IsNumber, Segments, a_table}
 
 -- a formatted block of an extent of the table
 abbrev pub Present : Shape → List Record → ℕ → ℕ → Type 0

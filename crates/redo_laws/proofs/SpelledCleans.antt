@@ -21,12 +21,13 @@ use Rattle.redo_model.specs.AllowedTransactions.{slots_name, entries_name, is_na
 use Rattle.redo_model.proofs.Bridge.{count_is, entry_count_is}
 use Rattle.redo_laws.proofs.Apart.{filter_has}
 use Rattle.redo_laws.proofs.Bounds.{count_short, data_bound}
-use Rattle.redo_laws.proofs.Places.{is_in, in_left, in_right}
+use Rattle.redo_laws.proofs.Places.{in_left, in_right}
 use Rattle.redo_laws.proofs.Places.{in_contains, in_take}
 use Rattle.redo_laws.proofs.RoomLaw.{RoomIn}
 use Rattle.redo_laws.proofs.SpelledRows.{AreNumbers, Before}
 use Rattle.redo_laws.proofs.TxnTable.{TxnTable, txn_table}
 use Rattle.redo_model.specs.Segments.{under_high, high_mark, data_blocks}
+use Rattle.redo_laws.specs.Among.{is_in}
 
 -- transactions in rising order
 

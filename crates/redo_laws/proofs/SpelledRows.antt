@@ -28,12 +28,12 @@ use Rattle.redo_model.specs.AllowedRows.{at_place, next_slot, place_of_undo}
 use Rattle.redo_model.specs.Segments.{data_blocks}
 use Rattle.redo_model.specs.Lawful.{AreAllowed}
 use Rattle.redo_model.proofs.Bridge.{count_is}
+use Rattle.redo_laws.specs.Among.{is_in}
 use Rattle.redo_laws.specs.Fit.{PartFits, EachFits}
 use Rattle.redo_laws.proofs.Every.{Every, every-filter}
 use Rattle.redo_laws.proofs.Basics.{Basics}
 use Rattle.redo_laws.proofs.Beyond.{beyond}
 use Rattle.redo_laws.proofs.Known.{known}
-use Rattle.redo_laws.proofs.Places.{is_in}
 use Rattle.redo_laws.proofs.Shapes.{Replaces, Puts, AllPut}
 use Rattle.redo_laws.proofs.Fitting.{Whole}
 use Rattle.redo_laws.proofs.RoomLaw.{RoomIn}

@@ -16,3 +16,6 @@ pub mod Spelled
 pub mod Sound
 pub mod Reads
 pub mod Writers
+pub mod Among
+pub mod Prefixes
+pub mod Since

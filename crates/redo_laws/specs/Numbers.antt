@@ -48,3 +48,13 @@ pub record NumbersOnce (R : List Record) : Type 0 where
 
 abbrev pub NumbersAreGivenOnce : Type 0
 NumbersAreGivenOnce = (sh : Shape) (R : List Record) → AreAllowed sh R → NumbersOnce R
+
+-- a record that gives a number gives the next one
+pub record NumbersNext (R : List Record) (r : Record) : Type 0 where
+  pub row : (n : ℕ) → row_given r ≡ Some n → n ≡ suc (row_count R)
+  pub txn : (n : ℕ) → txn_given r ≡ Some n → n ≡ suc (txn_count R)
+  pub commit : (n : ℕ) → commit_given r ≡ Some n → n ≡ suc (commit_count R)
+  pub lowering : (n : ℕ) → lowering_given r ≡ Some n → n ≡ suc (lowering_count R)
+
+abbrev pub NumbersAreGivenInOrder : Type 0
+NumbersAreGivenInOrder = (sh : Shape) (R : List Record) (r : Record) → AreAllowed sh (r ∷ R) → NumbersNext R r

@@ -1,8 +1,10 @@
 // The first laws: numbers, tables and marks, and what one more record does.
 ghost use Rattle.redo_laws.specs.Added.{ImagesAfterOne, ImagesAfterSteps, MovesKeepTables, OthersAreLeft};
+ghost use Rattle.redo_laws.specs.Among.{MembershipIsTold};
 ghost use Rattle.redo_laws.specs.Apart.{ExtentsAreApart};
 ghost use Rattle.redo_laws.specs.Forgotten.{ForgottenHavePassed};
-ghost use Rattle.redo_laws.specs.Numbers.{NumbersAreGivenOnce};
+ghost use Rattle.redo_laws.specs.Numbers.{NumbersAreGivenInOrder, NumbersAreGivenOnce};
+ghost use Rattle.redo_laws.specs.Prefixes.{PrefixesStay};
 ghost use Rattle.redo_laws.specs.Tables.{LowMarkRule, PrefixesAreLawful, RecordsNameTables};
 
 /// Every block of a table at a position below its low mark is formatted.
@@ -23,6 +25,11 @@ pub fn records_name_tables()
 /// A row number, a transaction number, a commit number and a lowering are each given once, from 1 on.
 pub fn numbers_are_given_once()
     ensures { NumbersAreGivenOnce }
+{}
+
+/// They are given in order: each record that gives one gives the next.
+pub fn numbers_are_given_in_order()
+    ensures { NumbersAreGivenInOrder }
 {}
 
 /// A record leaves the slots and entries of each block that it doesn't name.
@@ -54,4 +61,14 @@ pub fn images_after_steps()
 /// each data block, past the undo blocks and within the store.
 pub fn extents_are_apart()
     ensures { ExtentsAreApart }
+{}
+
+/// The first n records of a list are those of every longer list.
+pub fn prefixes_stay()
+    ensures { PrefixesStay }
+{}
+
+/// Membership in a list of blocks, as a test and as std says it.
+pub fn membership_is_told()
+    ensures { MembershipIsTold }
 {}

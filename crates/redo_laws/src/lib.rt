@@ -7,8 +7,8 @@ mod rows;
 
 pub use first::{
     extents_are_apart, forgotten_have_passed, images_after_one, images_after_steps, low_mark_rule,
-    moves_keep_tables, numbers_are_given_once, others_are_left, prefixes_are_lawful,
-    records_name_tables,
+    membership_is_told, moves_keep_tables, numbers_are_given_in_order, numbers_are_given_once,
+    others_are_left, prefixes_are_lawful, prefixes_stay, records_name_tables,
 };
 pub use rows::{
     blocks_are_sound, blocks_have_room, blocks_stay, heads_name_bodies, past_is_lost,

@@ -1,0 +1,5 @@
+pub mod PartsLaw
+pub mod BackLaw
+pub mod FitsLaw
+pub mod UndoLaw
+pub mod TxnsLaw

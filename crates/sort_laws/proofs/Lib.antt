@@ -1,0 +1,3 @@
+pub mod TouchedLaw
+pub mod SortsLaw
+pub mod MeetsLaw

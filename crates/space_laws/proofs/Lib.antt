@@ -1,0 +1,5 @@
+pub mod MarksLaw
+pub mod ExtentsLaw
+pub mod BestsLaw
+pub mod IncarnationsLaw
+pub mod TablesLaw

@@ -1,0 +1,5 @@
+pub mod Marks
+pub mod Extents
+pub mod Bests
+pub mod Incarnations
+pub mod Tables

@@ -28,3 +28,8 @@ later_some p ps (q ∷ qs) i = (inr i.0, later_some p ps qs i.1)
 pub all_some : {A : Type 0} (ps : List A) → AreSome ps ps
 all_some [] = tt
 all_some (p ∷ ps) = (inl refl, later_some p ps ps (all_some ps))
+
+-- by what each is and has
+pub each_from : {A : Type 0} (P Q : A → Type 0) (ps : List A) → ((p : A) → IsOneOf p ps → P p → Q p) → Every P ps → Every Q ps
+each_from P Q [] f h = tt
+each_from P Q (p ∷ ps) f h = (f p (inl refl) h.0, each_from P Q ps (λ q i. f q (inr i)) h.1)

@@ -1,0 +1,2 @@
+pub mod StayingLaw
+pub mod RowsStayLaw

@@ -1,0 +1,5 @@
+pub mod GrownLaw
+pub mod NamedLaw
+pub mod CursorLaw
+pub mod HeadsLaw
+pub mod LoweredLaw

@@ -1,0 +1,5 @@
+use Rattle.shrink_laws.proofs.CursorLaw as laws
+use Rattle.shrink_laws.proofs.skipping_keeps.Goals as goal
+
+pub returns : goal.returns
+returns c = laws.skipping_keeps

@@ -1,0 +1,16 @@
+-- The head and the body of a migrated row stand in different blocks.
+use Rattle.std.specs.Prelude.{◌≡◌, ◌≢◌, ℕ, List, Some}
+use Rattle.seg_base.specs.declared.shape.Shape.{Shape}
+use Rattle.seg_base.specs.declared.slot.Kind.TheVariants.{Head}
+use Rattle.seg_base.specs.declared.slot.Rowid.{Rowid}
+use Rattle.redo_record.specs.declared.record.Record.{Record}
+use Rattle.redo_model.specs.Slots.{image}
+use Rattle.redo_model.specs.AllowedRows.{IsMigrated}
+use Rattle.redo_model.specs.Lawful.{AreAllowed}
+
+pub record HeadsApart (R : List Record) : Type 0 where
+  pub head : (b k : ℕ) (p : Rowid) → (image R b k).kind ≡ Head → (image R b k).link ≡ Some p → p.dba ≢ b
+  pub migrated : (n b k c l : ℕ) → IsMigrated R n b k c l → c ≢ b
+
+abbrev pub HeadsAreApart : Type 0
+HeadsAreApart = (sh : Shape) (R : List Record) → AreAllowed sh R → HeadsApart R

@@ -87,7 +87,7 @@ filter_has p b (x ∷ bs) h f =
       | false ↦ λ e. elim (or_cases (eqb x b) (is_in b bs) h) [ inl y ↦ absurd (true≢false (sym (subst (λ z. p z ≡ true) (sym (eqb-true x b y)) f) ∙ e)) | inr y ↦ filter_has p b bs y f ]
     ]) refl
 
-distinct-filter : (p : ℕ → Bool) (bs : List ℕ) → Distinct bs → Distinct (filter p bs)
+pub distinct-filter : (p : ℕ → Bool) (bs : List ℕ) → Distinct bs → Distinct (filter p bs)
 distinct-filter p [] h = tt
 distinct-filter p (b ∷ bs) h =
     elim (p b) as (λ v. Distinct (cond v (b ∷ filter p bs) (filter p bs))) [

@@ -66,7 +66,7 @@ made_stand ss st i (p ∷ ps) b k ms h =
       | false ↦ made_stand ss st (suc i) ps b k ms h
     ]
 
-distinct_filter : (f : Step → Bool) (ss : List Step) → Distinct ss → Distinct (filter f ss)
+pub distinct_filter : (f : Step → Bool) (ss : List Step) → Distinct ss → Distinct (filter f ss)
 distinct_filter f [] h = tt
 distinct_filter f (s ∷ ss) h = elim (f s) as (λ v. Distinct (cond v (s ∷ filter f ss) (filter f ss))) [ true ↦ (every-filter _ f ss h.0, distinct_filter f ss h.1) | false ↦ distinct_filter f ss h.1 ]
 

@@ -1,0 +1,3 @@
+pub mod ClassesLaw
+pub mod NamedLaw
+pub mod CleanedLaw

@@ -38,7 +38,7 @@ use Rattle.redo_laws.proofs.Places.{IsNumber, Segments, segments, same_table, a_
 use Rattle.redo_laws.proofs.Shapes.{Present, Replaces, StepShape, empty_of}
 use Rattle.redo_laws.proofs.Spread.{good, by_of, located_newest}
 use Rattle.redo_laws.proofs.SpreadLaw.{present_block}
-use Rattle.redo_laws.proofs.Views.{ready}
+use Rattle.redo_laws.proofs.Views.{RowLock, ready}
 use Rattle.redo_laws.proofs.Whole.{whole, record_fits}
 use Rattle.back_laws.specs.Backs.{EachPart, OfTable, StepsAreOfTables, StepHome, StepsAtHome, FirstShows, NewestShows}
 use Rattle.back_laws.proofs.Entered.{one_named, part_named, all_own, head_by, begun_one}
@@ -229,11 +229,7 @@ newest_one (s ∷ ss) t st e = elim (cases_Bool (is_by s.by t)) [
   | inr f ↦ let r = newest_one ss t st (sym (cond-false _ _ _ f) ∙ e) in (inr r.0, r.1)
 ]
 
-abbrev pub Locked : (ℕ → Bool) → List Step → Type 0
-Locked active [] = Unit {0}
-Locked active (x ∷ ss) = Every (λ (s : Step). s.row ≡ x.row → MayOver active x.by s.by) ss × Locked active ss
-
-newest_row : (active : ℕ → Bool) (ss : List Step) (t : ℕ) (st : Step) → Locked active ss → active t ≡ true → newest_of ss t ≡ Some st → newest_on ss st.row ≡ Some st
+newest_row : (active : ℕ → Bool) (ss : List Step) (t : ℕ) (st : Step) → RowLock active ss → active t ≡ true → newest_of ss t ≡ Some st → newest_on ss st.row ≡ Some st
 newest_row active [] t st l on e = absurd (let x : ◌≡◌ {A = Option Step} None (Some st) = e in cc)
 newest_row active (s ∷ ss) t st l on e = elim (cases_Bool (is_by s.by t)) [
   | inl y ↦ let z : ◌≡◌ {A = Option Step} (Some s) (Some st) = sym (cond-true _ _ _ y) ∙ e in let same : s ≡ st = cc in cond-true _ _ _ (eq-eqb s.row st.row (ap (λ (x : Step). x.row) same)) ∙ ap (λ (x : Step). Some x) same

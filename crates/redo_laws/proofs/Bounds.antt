@@ -12,12 +12,13 @@ use Rattle.redo_record.specs.declared.record.Record.{Record}
 use Rattle.redo_record.specs.declared.record.Record.TheVariants.{Reuse}
 use Rattle.redo_record.specs.declared.part.RowPart.{RowPart}
 use Rattle.redo_model.specs.Effects.{Effect, Adds, effect_of}
-use Rattle.redo_model.specs.Ordinals.{count_of}
+use Rattle.redo_model.specs.Ordinals.{count_of, is_commit, is_insert, is_begin, is_lower}
 use Rattle.redo_model.specs.Segments.{Extent, extents_of, blocks_from, data_of, data_blocks, is_formatted, has_extent, extent_at, block_in, index_of, group_start}
 use Rattle.redo_model.specs.Kept.{kept_class, code_of, good_code, best_of, best_in_group, best_in_l2, best_of_found, best_in_l1}
 use Rattle.redo_model.specs.Undo.{Undone, undone_after, emptied_by, parts_size, undone, undo_parts, undo_used, current_undo, undo_sequence, has_holder, ring_after, next_undo}
 use Rattle.redo_model.specs.Lawful.{AreAllowed}
 use Rattle.redo_laws.specs.Among.{is_in}
+use Rattle.redo_laws.specs.Short.{NumbersAreShort}
 use Rattle.redo_laws.proofs.Every.{Every}
 use Rattle.redo_laws.proofs.AllKinds.{found_in}
 use Rattle.redo_laws.proofs.Economy.{size_of}
@@ -34,6 +35,15 @@ pub sequence_short : (R : List Record) (u : ℕ) → undo_sequence R u ≤ lengt
 sequence_short [] u = omega arith
 sequence_short (Reuse q ∷ R) u = let k = sequence_short R u in cond_both (eqb q.block u) (suc (undo_sequence R u)) (undo_sequence R u) (λ n. n ≤ suc (length R)) (λ y. omega (arith, k)) (λ f. omega (arith, k))
 sequence_short (_ ∷ R) u = let k = sequence_short R u in omega (arith, k)
+
+pub numbers_are_short : NumbersAreShort
+numbers_are_short R = record {
+  commits = count_short is_commit R;
+  rows = count_short is_insert R;
+  txns = count_short is_begin R;
+  lowerings = count_short is_lower R;
+  sequences = λ u. sequence_short R u;
+}
 
 -- the limits of a store
 pub record Limits (sh : Shape) : Type 0 where

@@ -26,7 +26,7 @@ use Rattle.redo_laws.proofs.Held.{Distinct, own, Tops, tops, others_own, effect_
 use Rattle.redo_laws.proofs.Spread.{Good, good, by_of, tops_by}
 
 -- no newer step on a row than that of an active transaction, but its own
-abbrev RowLock : (ℕ → Bool) → List Step → Type 0
+abbrev pub RowLock : (ℕ → Bool) → List Step → Type 0
 RowLock active [] = Unit {0}
 RowLock active (x ∷ ss) = Every (λ (s : Step). s.row ≡ x.row → MayOver active x.by s.by) ss × RowLock active ss
 

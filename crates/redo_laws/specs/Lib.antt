@@ -19,3 +19,4 @@ pub mod Writers
 pub mod Among
 pub mod Prefixes
 pub mod Since
+pub mod Short

@@ -5,6 +5,7 @@ ghost use Rattle.redo_laws.specs.Apart.{ExtentsAreApart};
 ghost use Rattle.redo_laws.specs.Forgotten.{ForgottenHavePassed};
 ghost use Rattle.redo_laws.specs.Numbers.{NumbersAreGivenInOrder, NumbersAreGivenOnce};
 ghost use Rattle.redo_laws.specs.Prefixes.{PrefixesStay};
+ghost use Rattle.redo_laws.specs.Short.{NumbersAreShort};
 ghost use Rattle.redo_laws.specs.Tables.{LowMarkRule, PrefixesAreLawful, RecordsNameTables};
 
 /// Every block of a table at a position below its low mark is formatted.
@@ -30,6 +31,11 @@ pub fn numbers_are_given_once()
 /// They are given in order: each record that gives one gives the next.
 pub fn numbers_are_given_in_order()
     ensures { NumbersAreGivenInOrder }
+{}
+
+/// No number that a list gives, and no sequence of an undo block, is greater than the count of its records.
+pub fn numbers_are_short()
+    ensures { NumbersAreShort }
 {}
 
 /// A record leaves the slots and entries of each block that it doesn't name.

@@ -1,5 +1,5 @@
 -- Row blocks stay until they are released.
-use Rattle.std.proofs.Common.{◌≡◌, ℕ, ◌+◌, ◌≤◌, Bool, true, false, cond, not, ◌&&◌, eqb, List, [], ◌∷◌, length, take, drop, refl, sym, ◌∙◌, ap, subst, arith, inl, inr, le_trans}
+use Rattle.std.proofs.Common.{◌≡◌, ◌≢◌, ◌⊎◌, ℕ, suc, ◌+◌, ◌≤◌, Bool, true, false, cond, not, ◌&&◌, eqb, List, [], ◌∷◌, length, take, drop, refl, sym, ◌∙◌, ap, subst, arith, inl, inr, le_trans}
 use Rattle.std.proofs.lemmas.Bool.{eqb-true, eq-eqb, true≢false, leb-true, ltb-true, lt-ltb, le-leb, and_from, and_parts, and_right, or_left, or_right, or_cases}
 use Rattle.seg_base.specs.declared.shape.Shape.{Shape}
 use Rattle.seg_base.specs.Places.{first_block}
@@ -12,7 +12,7 @@ use Rattle.redo_model.specs.Segments.{Extent, extents_of, data_of, has_extent, i
 use Rattle.redo_model.specs.AllowedTables.{LowerAllowed}
 use Rattle.redo_model.specs.Lawful.{IsKindAllowed, AreAllowed}
 use Rattle.redo_laws.specs.Among.{is_in}
-use Rattle.redo_laws.specs.Stays.{not_later, one_later}
+use Rattle.redo_laws.specs.Stays.{Later, not_later, one_later, IsNotOf, IsQuiet}
 use Rattle.redo_laws.proofs.Bools.{clash, off, both_off}
 use Rattle.redo_laws.proofs.ApartLaw.{is_listed, numbers, number_in}
 use Rattle.redo_laws.proofs.Places.{in_take, in_either, front_of, in_data, contains_in, extend_keeps, extend_out, format_first, same_extent, IsNumber, a_table, segments}
@@ -23,7 +23,7 @@ use Rattle.space_laws.specs.Extents.{IsFreedBy}
 use Rattle.space_laws.proofs.ExtentsLaw.{found_has, extents_stay, lowers_free_what_they_name}
 use Rattle.space_laws.proofs.IncarnationsLaw.{before_step}
 use Rattle.space_laws.proofs.TablesLaw.{tables_stay}
-use Rattle.scan_laws.specs.Staying.{has_block, releases, RowBlocksStay, StaysSince, RowBlocksStaySince, IsGone, ReleasedAreGone, IncarnationsTellReleases}
+use Rattle.scan_laws.specs.Staying.{has_block, releases, RowBlocksStay, StaysSince, RowBlocksStaySince, IsGone, ReleasedAreGone, IncarnationsTellReleases, UnreleasedAreRead}
 
 -- released extents
 
@@ -108,6 +108,20 @@ row_blocks_stay sh R r o b h t here n =
 freed : (sh : Shape) (r : Record) (o b i : ℕ) (e : Extent) → IsFreedBy r o i e → in_extent sh e.number b ≡ true → releases sh o b r ≡ true
 freed sh r o b i e f h = subst (λ x. releases sh o b x ≡ true) (sym f.is) (and_from (eqb f.lower.obj o) _ (eq-eqb f.lower.obj o f.table) (block_had sh f.lower.released e.number b f.named h))
 
+-- the last of the records that were added
+last_later : (P : Effect → Type 0) (Q R : List Record) → Later P Q R → (r : Record) (S : List Record) → R ≡ r ∷ S → (R ≡ Q) ⊎ (Later P Q S × P (effect_of r))
+last_later P Q R not_later r S e = inl refl
+last_later P Q R (one_later {R = T} x l f) r S e =
+    let head : x ≡ r = (let q : x ∷ T ≡ r ∷ S = e in cc) in
+    let tail : T ≡ S = (let q : x ∷ T ≡ r ∷ S = e in cc) in
+    inr (subst (Later P Q) tail l, subst (λ y. P (effect_of y)) head f)
+
+quiet_more : (Q S : List Record) (r : Record) (b t : ℕ) → Extends Q S → effect_of r ≢ Formats b → (Later (λ e. IsNotOf e t) Q S → Later (IsQuiet t b) Q S) → Later (λ e. IsNotOf e t) Q (r ∷ S) → Later (IsQuiet t b) Q (r ∷ S)
+quiet_more Q S r b t x n was l = elim (last_later (λ e. IsNotOf e t) Q (r ∷ S) l r S refl) [
+  | inl e ↦ (let k = extends_length Q S x in let m : suc (length S) ≡ length Q = ap (λ (z : List Record). length z) e in absurd (omega (arith, k, m)))
+  | inr y ↦ one_later r (was y.0) (y.1, n)
+]
+
 abbrev Since : Shape → List Record → ℕ → ℕ → List Record → Type 0
 Since sh Q o b S = AreAllowed sh S → StaysSince sh Q S o b
 
@@ -118,6 +132,7 @@ since_step sh Q S r o b x t n was h =
     record {
       row_block = s.row_block;
       not_again = one_later r w.not_again s.not_again;
+      quiet = λ u l. quiet_more Q S r b u x s.not_again (w.quiet u) l;
       same_extent = λ i e a k. elim (extents_stay sh S r o i e h (w.same_extent i e a k)) [
         | inl y ↦ y
         | inr f ↦ absurd (clash (releases sh o b r) (freed sh r o b i e f k) n)
@@ -127,8 +142,11 @@ since_step sh Q S r o b x t n was h =
 pub row_blocks_stay_since : RowBlocksStaySince
 row_blocks_stay_since sh Q R o b h x t here n =
     each_since (releases sh o b) (Since sh Q o b) Q R x n
-    (λ a. record { row_block = here; not_again = not_later; same_extent = λ i e y k. y })
+    (λ a. record { row_block = here; not_again = not_later; quiet = λ u l. not_later; same_extent = λ i e y k. y })
     (λ S r y z m was. since_step sh Q S r o b y t m was) h
+
+pub unreleased_are_read : UnreleasedAreRead
+unreleased_are_read sh Q R o t b h x table here n l = record { allowed = h; later = (row_blocks_stay_since sh Q R o b h x table here n).quiet t l }
 
 -- what is released is gone
 

@@ -10,8 +10,9 @@ use Rattle.redo_model.specs.Lists.{Extends}
 use Rattle.redo_model.specs.Effects.{Formats, effect_of}
 use Rattle.redo_model.specs.Segments.{Extent, extents_of, extent_at, in_extent, data_blocks, IsTable, IsRowBlock}
 use Rattle.redo_model.specs.Lawful.{AreAllowed}
+use Rattle.redo_laws.specs.Scan.{IsReadAfter}
 use Rattle.redo_laws.specs.Since.{any_since}
-use Rattle.redo_laws.specs.Stays.{Later}
+use Rattle.redo_laws.specs.Stays.{Later, IsNotOf, IsQuiet}
 
 -- one of these extents has the block
 abbrev pub has_block : Shape → List ℕ → ℕ → Bool
@@ -36,10 +37,11 @@ pub record BlockStays (sh : Shape) (R : List Record) (r : Record) (o b : ℕ) : 
 abbrev pub RowBlocksStay : Type 0
 RowBlocksStay = (sh : Shape) (R : List Record) (r : Record) (o b : ℕ) → AreAllowed sh (r ∷ R) → IsTable R o → IsRowBlock sh R o b → releases sh o b r ≡ false → BlockStays sh R r o b
 
--- after more records
+-- After more records. With nothing by a transaction among them all that it reads in the block stays.
 pub record StaysSince (sh : Shape) (Q R : List Record) (o b : ℕ) : Type 0 where
   pub row_block : IsRowBlock sh R o b
   pub not_again : Later (λ e. e ≢ Formats b) Q R
+  pub quiet : (t : ℕ) → Later (λ e. IsNotOf e t) Q R → Later (IsQuiet t b) Q R
   pub same_extent : (i : ℕ) (e : Extent) → extent_at (extents_of Q o) i ≡ Some e → in_extent sh e.number b ≡ true → extent_at (extents_of R o) i ≡ Some e
 
 abbrev pub RowBlocksStaySince : Type 0
@@ -60,3 +62,10 @@ abbrev pub IncarnationsTellReleases : Type 0
 IncarnationsTellReleases =
     (sh : Shape) (Q R : List Record) (o b i : ℕ) (e : Extent) → AreAllowed sh R → Extends Q R → IsTable Q o → extent_at (extents_of R o) i ≡ Some e → in_extent sh e.number b ≡ true
     → e.incarnation ≤ length Q → is_released_since sh (length Q) R o b ≡ false
+
+-- What a scan needs of a block that it reads later holds where the block wasn't released since the scan began, and its own
+-- transaction added nothing: so by the law on scans each row of its view is found once.
+abbrev pub UnreleasedAreRead : Type 0
+UnreleasedAreRead =
+    (sh : Shape) (Q R : List Record) (o t b : ℕ) → AreAllowed sh R → Extends Q R → IsTable Q o → IsRowBlock sh Q o b → is_released_since sh (length Q) R o b ≡ false → Later (λ e. IsNotOf e t) Q R
+    → IsReadAfter sh Q R t b

@@ -3,7 +3,7 @@
 #![tactic(auto)]
 
 ghost use Rattle.scan_laws.specs.RowsStay.{RowsOfBlocksStay};
-ghost use Rattle.scan_laws.specs.Staying.{IncarnationsTellReleases, ReleasedAreGone, RowBlocksStay, RowBlocksStaySince};
+ghost use Rattle.scan_laws.specs.Staying.{IncarnationsTellReleases, ReleasedAreGone, RowBlocksStay, RowBlocksStaySince, UnreleasedAreRead};
 
 /// A row block of a table stays one, and isn't formatted again, by a record that doesn't release its extent.
 pub fn row_blocks_stay()
@@ -13,6 +13,11 @@ pub fn row_blocks_stay()
 /// So it does in a longer list in which no record released its extent since, with the same incarnation.
 pub fn row_blocks_stay_since()
     ensures { RowBlocksStaySince }
+{}
+
+/// What a scan needs of a block that it reads later holds where the block wasn't released since it began.
+pub fn unreleased_are_read()
+    ensures { UnreleasedAreRead }
 {}
 
 /// A released block is none of its table's any more.

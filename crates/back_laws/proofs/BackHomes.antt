@@ -23,23 +23,23 @@ use Rattle.redo_model.specs.AllowedRows.{InsertAllowed, MigrateAllowed, migrates
 use Rattle.redo_model.specs.Lawful.{IsKindAllowed, AreAllowed}
 use Rattle.redo_laws.specs.Among.{is_in, IsOneOf}
 use Rattle.redo_laws.specs.Economy.{EachStep}
-use Rattle.redo_laws.proofs.Among.{one_has, each_one, each_from}
-use Rattle.redo_laws.proofs.After.{records_name_tables}
-use Rattle.redo_laws.proofs.AllKinds.{RecordShape, shape_of}
-use Rattle.redo_laws.proofs.Every.{Every, every-map, every-filter}
-use Rattle.redo_laws.proofs.OnTop.{is_named, addr_self, OnTop, head_named}
-use Rattle.redo_laws.proofs.Facts.{place_of, located, HeadSettled, StatesOld, MayOver}
-use Rattle.redo_laws.proofs.Fitting.{Whole, all, now_shown, step_table}
-use Rattle.redo_laws.proofs.Held.{own, own_newest, effect_held, Distinct}
-use Rattle.redo_laws.proofs.Homes.{RowOf}
-use Rattle.redo_laws.proofs.Known.{turn}
-use Rattle.redo_laws.proofs.Links.{StandsOn, Linked}
-use Rattle.redo_laws.proofs.Places.{IsNumber, Segments, segments, same_table, a_table, extend_data, extend_out, lower_data}
-use Rattle.redo_laws.proofs.Shapes.{Present, Replaces, StepShape, empty_of}
-use Rattle.redo_laws.proofs.Spread.{good, by_of, located_newest}
-use Rattle.redo_laws.proofs.SpreadLaw.{present_block}
-use Rattle.redo_laws.proofs.Views.{RowLock, ready}
-use Rattle.redo_laws.proofs.Whole.{whole, record_fits}
+use Rattle.redo_laws.proofs.lists.Among.{one_has, each_one, each_from}
+use Rattle.redo_laws.proofs.steps.After.{records_name_tables}
+use Rattle.redo_laws.proofs.allowed.AllKinds.{RecordShape, shape_of}
+use Rattle.redo_laws.proofs.lists.Every.{Every, every-map, every-filter}
+use Rattle.redo_laws.proofs.steps.OnTop.{is_named, addr_self, OnTop, head_named}
+use Rattle.redo_laws.proofs.steps.Facts.{place_of, located, HeadSettled, StatesOld, MayOver}
+use Rattle.redo_laws.proofs.spread.Fitting.{Whole, all, now_shown, step_table}
+use Rattle.redo_laws.proofs.steps.Held.{own, own_newest, effect_held, Distinct}
+use Rattle.redo_laws.proofs.homes.Homes.{RowOf}
+use Rattle.redo_laws.proofs.numbers.Known.{turn}
+use Rattle.redo_laws.proofs.links.Links.{StandsOn, Linked}
+use Rattle.redo_laws.proofs.space.Places.{IsNumber, Segments, segments, same_table, a_table, extend_data, extend_out, lower_data}
+use Rattle.redo_laws.proofs.allowed.Shapes.{Present, Replaces, StepShape, empty_of}
+use Rattle.redo_laws.proofs.spread.Spread.{good, by_of, located_newest}
+use Rattle.redo_laws.proofs.spread.SpreadLaw.{present_block}
+use Rattle.redo_laws.proofs.spread.Views.{RowLock, ready}
+use Rattle.redo_laws.proofs.spread.Whole.{whole, record_fits}
 use Rattle.back_laws.specs.Backs.{EachPart, OfTable, StepsAreOfTables, StepHome, StepsAtHome, FirstShows, NewestShows}
 use Rattle.back_laws.proofs.Entered.{one_named, part_named, all_own, head_by, begun_one}
 

@@ -23,17 +23,17 @@ use Rattle.redo_model.specs.Lawful.{AreAllowed}
 use Rattle.redo_model.proofs.Bridge.{entry_is, entry_count_is}
 use Rattle.redo_laws.specs.Among.{IsOneOf}
 use Rattle.redo_laws.specs.Economy.{EachStep}
-use Rattle.redo_laws.proofs.Among.{one_has, each_one, each_from}
-use Rattle.redo_laws.proofs.Every.{Every, every-map, every-filter}
-use Rattle.redo_laws.proofs.OnTop.{is_named, OnTop, head_named, off_named}
-use Rattle.redo_laws.proofs.Facts.{BegunBy, HeadSettled, EffectFits}
-use Rattle.redo_laws.proofs.Held.{Held, own, effect_held}
-use Rattle.redo_laws.proofs.Known.{turn}
-use Rattle.redo_laws.proofs.Links.{LinksFit}
-use Rattle.redo_laws.proofs.RoomKinds.{EntersAt, Enter, StepRoom, EffectRoom, room_of}
-use Rattle.redo_laws.proofs.Spread.{by_of, good}
-use Rattle.redo_laws.proofs.Views.{NoneByZero, none_by_zero}
-use Rattle.redo_laws.proofs.Whole.{whole, record_fits}
+use Rattle.redo_laws.proofs.lists.Among.{one_has, each_one, each_from}
+use Rattle.redo_laws.proofs.lists.Every.{Every, every-map, every-filter}
+use Rattle.redo_laws.proofs.steps.OnTop.{is_named, OnTop, head_named, off_named}
+use Rattle.redo_laws.proofs.steps.Facts.{BegunBy, HeadSettled, EffectFits}
+use Rattle.redo_laws.proofs.steps.Held.{Held, own, effect_held}
+use Rattle.redo_laws.proofs.numbers.Known.{turn}
+use Rattle.redo_laws.proofs.links.Links.{LinksFit}
+use Rattle.redo_laws.proofs.room.RoomKinds.{EntersAt, Enter, StepRoom, EffectRoom, room_of}
+use Rattle.redo_laws.proofs.spread.Spread.{by_of, good}
+use Rattle.redo_laws.proofs.spread.Views.{NoneByZero, none_by_zero}
+use Rattle.redo_laws.proofs.spread.Whole.{whole, record_fits}
 use Rattle.back_laws.specs.Backs.{EachPart, EntryStays, StepEntries, EntriesStay}
 
 -- the entry that a transaction uses

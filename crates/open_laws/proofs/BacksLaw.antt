@@ -10,13 +10,13 @@ use Rattle.redo_model.specs.Transactions.{entry_of}
 use Rattle.redo_model.specs.Steps.{standing, newest_of, undo_of_step, without_step}
 use Rattle.redo_model.specs.AllowedRows.{taken_back}
 use Rattle.redo_model.specs.Lawful.{IsCalledFor, is_whole}
-use Rattle.redo_laws.proofs.Every.{every-map, filter-all, filter-swap}
-use Rattle.redo_laws.proofs.Facts.{BackFits}
-use Rattle.redo_laws.proofs.Held.{Tops, tops, own, own_newest, others_own, Distinct, distinct_filter}
-use Rattle.redo_laws.proofs.OnTop.{addr_self}
-use Rattle.redo_laws.proofs.Spread.{good}
-use Rattle.redo_laws.proofs.TxnTable.{TxnTable, txn_table}
-use Rattle.redo_laws.proofs.Whole.{record_fits, whole}
+use Rattle.redo_laws.proofs.lists.Every.{every-map, filter-all, filter-swap}
+use Rattle.redo_laws.proofs.steps.Facts.{BackFits}
+use Rattle.redo_laws.proofs.steps.Held.{Tops, tops, own, own_newest, others_own, Distinct, distinct_filter}
+use Rattle.redo_laws.proofs.steps.OnTop.{addr_self}
+use Rattle.redo_laws.proofs.spread.Spread.{good}
+use Rattle.redo_laws.proofs.numbers.TxnTable.{TxnTable, txn_table}
+use Rattle.redo_laws.proofs.spread.Whole.{record_fits, whole}
 use Rattle.open_laws.specs.Backs.{RollbackGoesOn, backs, ends, RollbacksGoOn, BacksTakeOne, EndedEndsOne}
 
 called_back : (R : List Record) (k : BackRecord) → is_whole R ≡ true → IsCalledFor R (Back k)

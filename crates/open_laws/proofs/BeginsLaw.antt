@@ -8,8 +8,8 @@ use Rattle.redo_model.specs.Ordinals.{txn_count}
 use Rattle.redo_model.specs.Transactions.{is_active, commit_number, control_number, user_of}
 use Rattle.redo_model.specs.AllowedTransactions.{EntryState, Unused, InUse, Committed, RolledBack, state_when_over, state_of_user, entry_state, is_unused, is_rolled_back, takes_unused, takes_rolled_back, takes_committed}
 use Rattle.redo_model.specs.Lawful.{IsCalledFor, AreAllowed, is_whole}
-use Rattle.redo_laws.proofs.Bools.{clash}
-use Rattle.redo_laws.proofs.TxnTable.{TxnTable, txn_table}
+use Rattle.redo_laws.proofs.lists.Bools.{clash}
+use Rattle.redo_laws.proofs.numbers.TxnTable.{TxnTable, txn_table}
 use Rattle.session_laws.specs.Sessions.{own_of}
 use Rattle.session_laws.proofs.Own.{whose, same_some}
 use Rattle.open_laws.specs.Begins.{count_below, EntryToTake, FewAreActive, SessionsCanBegin}

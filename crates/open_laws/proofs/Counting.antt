@@ -2,9 +2,9 @@
 use Rattle.std.proofs.Common.{◌≡◌, ◌⊎◌, ℕ, zero, suc, ◌≤◌, ◌<◌, Bool, true, false, cond, not, eqb, List, [], ◌∷◌, length, filter, refl, sym, ◌∙◌, ap, subst, arith, inl, inr}
 use Rattle.std.proofs.lemmas.Bool.{cond-true, cond-false, cases_Bool, eqb-true, eqb-false, true≢false, or_parts}
 use Rattle.redo_laws.specs.Among.{is_in}
-use Rattle.redo_laws.proofs.Apart.{Distinct, distinct-filter}
-use Rattle.redo_laws.proofs.Bools.{off}
-use Rattle.redo_laws.proofs.Every.{Every, filter-all}
+use Rattle.redo_laws.proofs.space.Apart.{Distinct, distinct-filter}
+use Rattle.redo_laws.proofs.lists.Bools.{off}
+use Rattle.redo_laws.proofs.lists.Every.{Every, filter-all}
 use Rattle.open_laws.specs.Begins.{count_below}
 
 -- a number is so, or none below n is

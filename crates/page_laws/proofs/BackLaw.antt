@@ -22,19 +22,19 @@ use Rattle.redo_model.specs.AllowedRows.{taken_back}
 use Rattle.redo_model.specs.Lawful.{AreAllowed}
 use Rattle.redo_model.proofs.Bridge.{count_is, entry_count_is}
 use Rattle.redo_laws.specs.Fit.{BackPartFits, EachBackFits}
-use Rattle.redo_laws.proofs.Every.{Every, every-map, every-filter}
-use Rattle.redo_laws.proofs.OnTop.{is_named, OnTop}
-use Rattle.redo_laws.proofs.Facts.{BackFits}
-use Rattle.redo_laws.proofs.FitLaw.{records_fit_blocks}
-use Rattle.redo_laws.proofs.ImageFacts.{each_taken, IsKept, Puts, AllHave, effect_puts, all_have}
-use Rattle.redo_laws.proofs.Held.{own_newest, newest_has, newest_is_by}
-use Rattle.redo_laws.proofs.Links.{Linked}
-use Rattle.redo_laws.proofs.Spread.{good}
-use Rattle.redo_laws.proofs.RoomLaw.{size_at, size_ended, size_active, back_size, reach_bound, each_named, PutSome, small}
-use Rattle.redo_laws.proofs.Sums.{sum_below, sum_less, sum_more}
-use Rattle.redo_laws.proofs.Whole.{record_fits, whole}
+use Rattle.redo_laws.proofs.lists.Every.{Every, every-map, every-filter}
+use Rattle.redo_laws.proofs.steps.OnTop.{is_named, OnTop}
+use Rattle.redo_laws.proofs.steps.Facts.{BackFits}
+use Rattle.redo_laws.proofs.room.FitLaw.{records_fit_blocks}
+use Rattle.redo_laws.proofs.steps.ImageFacts.{each_taken, IsKept, Puts, AllHave, effect_puts, all_have}
+use Rattle.redo_laws.proofs.steps.Held.{own_newest, newest_has, newest_is_by}
+use Rattle.redo_laws.proofs.links.Links.{Linked}
+use Rattle.redo_laws.proofs.spread.Spread.{good}
+use Rattle.redo_laws.proofs.room.RoomLaw.{size_at, size_ended, size_active, back_size, reach_bound, each_named, PutSome, small}
+use Rattle.redo_laws.proofs.lists.Sums.{sum_below, sum_less, sum_more}
+use Rattle.redo_laws.proofs.spread.Whole.{record_fits, whole}
 use Rattle.page_laws.specs.Parts.{partly_back, BackPartsFitInTurn}
-use Rattle.redo_laws.proofs.Among.{one_has, some_have}
+use Rattle.redo_laws.proofs.lists.Among.{one_has, some_have}
 use Rattle.page_laws.proofs.PartsLaw.{own_length, step_known, put_room, slots_laid}
 
 -- an image has room for its row

@@ -22,22 +22,22 @@ use Rattle.redo_model.specs.Blocks.{place_all, enter_by, slots_of, entries_of, b
 use Rattle.redo_model.specs.Segments.{IsRowBlock}
 use Rattle.redo_model.specs.Lawful.{IsKindAllowed, AreAllowed}
 use Rattle.redo_laws.specs.Among.{is_in, AreSome}
-use Rattle.redo_laws.proofs.AllKinds.{OldShape, RecordShape, shape_of}
-use Rattle.redo_laws.proofs.Every.{Every, every-map}
-use Rattle.redo_laws.proofs.Facts.{StatesOld, BackFits, HeadSettled}
-use Rattle.redo_laws.proofs.Fitting.{Whole, step_table}
-use Rattle.redo_laws.proofs.Held.{own_newest, newest_is_by}
-use Rattle.redo_laws.proofs.Homes.{RowOf}
-use Rattle.redo_laws.proofs.OnTop.{is_named, head_named, OnTop}
-use Rattle.redo_laws.proofs.Places.{Segments, segments}
-use Rattle.redo_laws.proofs.RoomLaw.{each_named}
-use Rattle.redo_laws.proofs.Shapes.{Replaces}
-use Rattle.redo_laws.proofs.Spread.{good}
-use Rattle.redo_laws.proofs.SpreadLaw.{present_block}
-use Rattle.redo_laws.proofs.Whole.{whole}
+use Rattle.redo_laws.proofs.allowed.AllKinds.{OldShape, RecordShape, shape_of}
+use Rattle.redo_laws.proofs.lists.Every.{Every, every-map}
+use Rattle.redo_laws.proofs.steps.Facts.{StatesOld, BackFits, HeadSettled}
+use Rattle.redo_laws.proofs.spread.Fitting.{Whole, step_table}
+use Rattle.redo_laws.proofs.steps.Held.{own_newest, newest_is_by}
+use Rattle.redo_laws.proofs.homes.Homes.{RowOf}
+use Rattle.redo_laws.proofs.steps.OnTop.{is_named, head_named, OnTop}
+use Rattle.redo_laws.proofs.space.Places.{Segments, segments}
+use Rattle.redo_laws.proofs.room.RoomLaw.{each_named}
+use Rattle.redo_laws.proofs.allowed.Shapes.{Replaces}
+use Rattle.redo_laws.proofs.spread.Spread.{good}
+use Rattle.redo_laws.proofs.spread.SpreadLaw.{present_block}
+use Rattle.redo_laws.proofs.spread.Whole.{whole}
 use Rattle.page_laws.specs.Fits.{blocks_of, back_blocks, rows_named, with_images, with_names, ImagesFit, EntryFits, NamesFit, WriterFits, EffectFits, StepsFitInTurn, NamedBlocksAreFormatted, PartsAreAtHome}
-use Rattle.redo_laws.proofs.Among.{one_has, all_some}
-use Rattle.redo_laws.proofs.ImageFacts.{each_taken}
+use Rattle.redo_laws.proofs.lists.Among.{one_has, all_some}
+use Rattle.redo_laws.proofs.steps.ImageFacts.{each_taken}
 use Rattle.page_laws.proofs.PartsLaw.{parts_fit_in_turn}
 use Rattle.page_laws.proofs.BackLaw.{back_fit, back_parts_fit_in_turn}
 

@@ -27,19 +27,19 @@ use Rattle.redo_model.proofs.Bridge.{image_is, count_is, entry_count_is}
 use Rattle.redo_laws.specs.Among.{IsOneOf, AreSome}
 use Rattle.redo_laws.specs.Fit.{PartFits, EachFits}
 use Rattle.redo_laws.specs.Fit.{EffectFits as BlocksFit}
-use Rattle.redo_laws.proofs.Every.{Every, every-map}
-use Rattle.redo_laws.proofs.OnTop.{is_named}
-use Rattle.redo_laws.proofs.Facts.{EffectFits}
-use Rattle.redo_laws.proofs.FitLaw.{records_fit_blocks}
-use Rattle.redo_laws.proofs.Homes.{new_left}
-use Rattle.redo_laws.proofs.ImageFacts.{StatesIts, states_each, states_old}
-use Rattle.redo_laws.proofs.RoomKinds.{Quiet, EntersAt, IsShort, Enter, StepRoom}
-use Rattle.redo_laws.proofs.RoomLaw.{size_at, RoomIn, size_ended, size_active, own_room, length_within, PutSome, put_some, first_part, after, RoomAfter, room_adds, EffectSmall, small, small_of}
-use Rattle.redo_laws.proofs.Shapes.{Puts}
-use Rattle.redo_laws.proofs.Sums.{sum_below, sum_less, sum_more, sum_places, sum_same}
-use Rattle.redo_laws.proofs.Whole.{record_fits, whole}
+use Rattle.redo_laws.proofs.lists.Every.{Every, every-map}
+use Rattle.redo_laws.proofs.steps.OnTop.{is_named}
+use Rattle.redo_laws.proofs.steps.Facts.{EffectFits}
+use Rattle.redo_laws.proofs.room.FitLaw.{records_fit_blocks}
+use Rattle.redo_laws.proofs.homes.Homes.{new_left}
+use Rattle.redo_laws.proofs.steps.ImageFacts.{StatesIts, states_each, states_old}
+use Rattle.redo_laws.proofs.room.RoomKinds.{Quiet, EntersAt, IsShort, Enter, StepRoom}
+use Rattle.redo_laws.proofs.room.RoomLaw.{size_at, RoomIn, size_ended, size_active, own_room, length_within, PutSome, put_some, first_part, after, RoomAfter, room_adds, EffectSmall, small, small_of}
+use Rattle.redo_laws.proofs.allowed.Shapes.{Puts}
+use Rattle.redo_laws.proofs.lists.Sums.{sum_below, sum_less, sum_more, sum_places, sum_same}
+use Rattle.redo_laws.proofs.spread.Whole.{record_fits, whole}
 use Rattle.page_laws.specs.Parts.{partly, PartsFitInTurn}
-use Rattle.redo_laws.proofs.Among.{one_has, some_have, some_both}
+use Rattle.redo_laws.proofs.lists.Among.{one_has, some_have, some_both}
 
 -- a step with other parts
 

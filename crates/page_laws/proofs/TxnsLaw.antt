@@ -8,14 +8,14 @@ use Rattle.redo_model.specs.Transactions.{is_active, entry_of}
 use Rattle.redo_model.specs.Steps.{standing_steps, standing, newest_of, undo_of_step, last_undo}
 use Rattle.redo_model.specs.Undo.{HeldPart, held_at, undo_held}
 use Rattle.redo_model.specs.Lawful.{AreAllowed}
-use Rattle.redo_laws.proofs.Held.{newest_has, newest_each, newest_is_by}
+use Rattle.redo_laws.proofs.steps.Held.{newest_has, newest_each, newest_is_by}
 use Rattle.redo_laws.specs.Reads.{StandAt, IsThere}
-use Rattle.redo_laws.proofs.Every.{Every, every-filter}
-use Rattle.redo_laws.proofs.Basics.{EffectBasics, basics}
-use Rattle.redo_laws.proofs.Bounds.{current_bound}
-use Rattle.redo_laws.proofs.ReadsLaw.{undo_is_read}
-use Rattle.redo_laws.proofs.Whole.{whole}
-use Rattle.redo_laws.proofs.TxnTable.{TxnTable, txn_table}
+use Rattle.redo_laws.proofs.lists.Every.{Every, every-filter}
+use Rattle.redo_laws.proofs.allowed.Basics.{EffectBasics, basics}
+use Rattle.redo_laws.proofs.numbers.Bounds.{current_bound}
+use Rattle.redo_laws.proofs.undo.ReadsLaw.{undo_is_read}
+use Rattle.redo_laws.proofs.spread.Whole.{whole}
+use Rattle.redo_laws.proofs.numbers.TxnTable.{TxnTable, txn_table}
 use Rattle.page_laws.specs.Txns.{ActiveOf, IsPlaced, TxnsAreInTable}
 
 -- the undo of standing records lies in the ring

@@ -32,16 +32,16 @@ use Rattle.redo_model.specs.Lawful.{AreAllowed}
 use Rattle.redo_laws.specs.Fit.{EachFits}
 use Rattle.redo_laws.specs.Fit.{EffectFits as BlocksFit}
 use Rattle.redo_laws.specs.Sound.{IsSound}
-use Rattle.redo_laws.proofs.Basics.{Basics, EffectBasics, basics}
-use Rattle.redo_laws.proofs.Bounds.{count_short, sequence_short, current_bound}
-use Rattle.redo_laws.proofs.EconomyLaw.{undo_is_enough}
-use Rattle.redo_laws.proofs.Every.{Every}
-use Rattle.redo_laws.proofs.FitLaw.{records_fit_blocks}
-use Rattle.redo_laws.proofs.Known.{known}
-use Rattle.redo_laws.proofs.ReadsLaw.{undo_is_read}
-use Rattle.redo_laws.proofs.SoundLaw.{blocks_are_sound}
-use Rattle.redo_laws.proofs.SpelledLaw.{spelled}
-use Rattle.redo_laws.proofs.SpelledRows.{StepSpelled}
+use Rattle.redo_laws.proofs.allowed.Basics.{Basics, EffectBasics, basics}
+use Rattle.redo_laws.proofs.numbers.Bounds.{count_short, sequence_short, current_bound}
+use Rattle.redo_laws.proofs.undo.EconomyLaw.{undo_is_enough}
+use Rattle.redo_laws.proofs.lists.Every.{Every}
+use Rattle.redo_laws.proofs.room.FitLaw.{records_fit_blocks}
+use Rattle.redo_laws.proofs.numbers.Known.{known}
+use Rattle.redo_laws.proofs.undo.ReadsLaw.{undo_is_read}
+use Rattle.redo_laws.proofs.spelled.SoundLaw.{blocks_are_sound}
+use Rattle.redo_laws.proofs.spelled.SpelledLaw.{spelled}
+use Rattle.redo_laws.proofs.spelled.SpelledRows.{StepSpelled}
 use Rattle.page_laws.specs.UndoPages.{txn_of, as_kept, AreBytes, UndoPagesAreSpelled, UndoTakesParts}
 use Rattle.page_laws.proofs.PartsLaw.{step_known}
 

@@ -4,8 +4,8 @@ use Rattle.std.proofs.lemmas.Bool.{cases_order}
 use Rattle.redo_record.specs.declared.record.Record.{Record}
 use Rattle.redo_model.specs.Slots.{slot_count}
 use Rattle.redo_model.specs.Versions.{found_below, row_at}
-use Rattle.redo_laws.proofs.SpreadLaw.{slot_there}
-use Rattle.redo_laws.proofs.StaysLaw.{blocks_stay}
+use Rattle.redo_laws.proofs.spread.SpreadLaw.{slot_there}
+use Rattle.redo_laws.proofs.spread.StaysLaw.{blocks_stay}
 use Rattle.scan_laws.specs.RowsStay.{RowsOfBlocksStay}
 
 found_same : {A : Type 0} (f g : ℕ → Option A) (n : ℕ) → ((k : ℕ) → f k ≡ g k) → found_below f n ≡ found_below g n

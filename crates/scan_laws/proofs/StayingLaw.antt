@@ -13,12 +13,12 @@ use Rattle.redo_model.specs.AllowedTables.{LowerAllowed}
 use Rattle.redo_model.specs.Lawful.{IsKindAllowed, AreAllowed}
 use Rattle.redo_laws.specs.Among.{is_in}
 use Rattle.redo_laws.specs.Stays.{Later, not_later, one_later, IsNotOf, IsQuiet}
-use Rattle.redo_laws.proofs.Bools.{clash, off, both_off}
-use Rattle.redo_laws.proofs.ApartLaw.{is_listed, numbers, number_in}
-use Rattle.redo_laws.proofs.Places.{in_take, in_either, front_of, in_data, contains_in, extend_keeps, extend_out, format_first, same_extent, IsNumber, a_table, segments}
-use Rattle.redo_laws.proofs.Prefixes.{extends_length}
-use Rattle.redo_laws.proofs.Since.{since_more, since_none, each_since}
-use Rattle.redo_laws.proofs.SpreadLaw.{present_block}
+use Rattle.redo_laws.proofs.lists.Bools.{clash, off, both_off}
+use Rattle.redo_laws.proofs.space.ApartLaw.{is_listed, numbers, number_in}
+use Rattle.redo_laws.proofs.space.Places.{in_take, in_either, front_of, in_data, contains_in, extend_keeps, extend_out, format_first, same_extent, IsNumber, a_table, segments}
+use Rattle.redo_laws.proofs.lists.Prefixes.{extends_length}
+use Rattle.redo_laws.proofs.lists.Since.{since_more, since_none, each_since}
+use Rattle.redo_laws.proofs.spread.SpreadLaw.{present_block}
 use Rattle.space_laws.specs.Extents.{IsFreedBy}
 use Rattle.space_laws.proofs.ExtentsLaw.{found_has, extents_stay, lowers_free_what_they_name}
 use Rattle.space_laws.proofs.IncarnationsLaw.{before_step}

@@ -11,7 +11,7 @@ use Rattle.redo_model.specs.Transactions.{is_active, is_open, has_open}
 use Rattle.redo_model.specs.Lawful.{AreAllowed}
 use Rattle.redo_laws.specs.Stays.{IsNotOf}
 use Rattle.redo_laws.specs.Views.{IsOpen}
-use Rattle.redo_laws.proofs.Whole.{record_fits}
+use Rattle.redo_laws.proofs.spread.Whole.{record_fits}
 use Rattle.session_laws.specs.Sessions.{without_txn, own_of, txn_or_zero, own_number, backed_of, IsOf, is_same, own_rows, own_begins}
 use Rattle.session_laws.specs.Owners.{SessionOf, is_one, OwnOf, SessionsOwnTransactions, RecordsHaveSessions, OthersLeaveSessions}
 use Rattle.session_laws.proofs.Own.{Tidy, tidy, own_active, own_last, whose, none_opened}

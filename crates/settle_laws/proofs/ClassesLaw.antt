@@ -20,13 +20,13 @@ use Rattle.redo_model.specs.Slots.{image, slot_count, entry_count}
 use Rattle.redo_model.specs.Versions.{Made, makers}
 use Rattle.redo_model.specs.Lawful.{AreAllowed}
 use Rattle.redo_model.proofs.Bridge.{image_is}
-use Rattle.redo_laws.proofs.Adding.{others_are_left}
-use Rattle.redo_laws.proofs.Bools.{clash}
-use Rattle.redo_laws.proofs.Facts.{BegunBy}
-use Rattle.redo_laws.proofs.Links.{Linked}
-use Rattle.redo_laws.proofs.RoomLaw.{used_is, size_at}
-use Rattle.redo_laws.proofs.Sums.{sum_same}
-use Rattle.redo_laws.proofs.Whole.{whole}
+use Rattle.redo_laws.proofs.steps.Adding.{others_are_left}
+use Rattle.redo_laws.proofs.lists.Bools.{clash}
+use Rattle.redo_laws.proofs.steps.Facts.{BegunBy}
+use Rattle.redo_laws.proofs.links.Links.{Linked}
+use Rattle.redo_laws.proofs.room.RoomLaw.{used_is, size_at}
+use Rattle.redo_laws.proofs.lists.Sums.{sum_same}
+use Rattle.redo_laws.proofs.spread.Whole.{whole}
 use Rattle.settle_laws.specs.Classes.{ends_named, ClassesStay}
 
 -- where each slot's writer has ended or not as before, the block counts what it did

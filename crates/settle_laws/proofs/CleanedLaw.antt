@@ -21,10 +21,10 @@ use Rattle.redo_model.specs.Blocks.{slots_of, entries_of, block_of}
 use Rattle.redo_model.specs.Slots.{image, slot_count, entry, entry_count}
 use Rattle.redo_model.specs.Lawful.{AreAllowed}
 use Rattle.redo_model.proofs.Bridge.{image_is, count_is, entry_is}
-use Rattle.redo_laws.proofs.Beyond.{beyond}
-use Rattle.redo_laws.proofs.RoomLaw.{used_is, size_at, size_ended}
-use Rattle.redo_laws.proofs.Sums.{sum_same}
-use Rattle.redo_laws.proofs.TxnTable.{txn_table}
+use Rattle.redo_laws.proofs.steps.Beyond.{beyond}
+use Rattle.redo_laws.proofs.room.RoomLaw.{used_is, size_at, size_ended}
+use Rattle.redo_laws.proofs.lists.Sums.{sum_same}
+use Rattle.redo_laws.proofs.numbers.TxnTable.{txn_table}
 use Rattle.settle_laws.specs.Cleaned.{CleansSettle}
 use Rattle.settle_laws.proofs.NamedLaw.{entry_wrote, wrote_begun}
 

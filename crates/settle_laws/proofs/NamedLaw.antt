@@ -24,10 +24,10 @@ use Rattle.redo_model.specs.Lawful.{AreAllowed}
 use Rattle.redo_model.proofs.Bridge.{image_is, entry_is}
 use Rattle.redo_laws.specs.Added.{any_in}
 use Rattle.redo_laws.specs.Chain.{EachMade}
-use Rattle.redo_laws.proofs.Basics.{EffectBasics, basics}
-use Rattle.redo_laws.proofs.Links.{Linked}
-use Rattle.redo_laws.proofs.TxnTable.{txn_table}
-use Rattle.redo_laws.proofs.Whole.{whole}
+use Rattle.redo_laws.proofs.allowed.Basics.{EffectBasics, basics}
+use Rattle.redo_laws.proofs.links.Links.{Linked}
+use Rattle.redo_laws.proofs.numbers.TxnTable.{txn_table}
+use Rattle.redo_laws.proofs.spread.Whole.{whole}
 use Rattle.settle_laws.specs.Named.{wrote_after, has_written, NamedHaveWritten}
 
 -- makers

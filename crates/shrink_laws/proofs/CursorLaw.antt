@@ -12,8 +12,8 @@ use Rattle.redo_model.specs.Effects.{effect_of}
 use Rattle.redo_model.specs.Transactions.{is_active}
 use Rattle.redo_model.specs.Slots.{is_place, image}
 use Rattle.redo_model.specs.Segments.{data_blocks, is_formatted}
-use Rattle.redo_laws.proofs.Prefixes.{prefix_all, prefix_more}
-use Rattle.redo_laws.proofs.Since.{since_more, each_since}
+use Rattle.redo_laws.proofs.lists.Prefixes.{prefix_all, prefix_more}
+use Rattle.redo_laws.proofs.lists.Since.{since_more, each_since}
 use Rattle.shrink_laws.specs.declared.skip.Skip.{Skip}
 use Rattle.shrink_laws.specs.Stops.{IsFull, row_image, is_skipped, is_named_by, is_named_since, IsPassed, IsAt, last_position, last_formatted, SkipsStand}
 use Rattle.shrink_laws.specs.Cursor.{CursorStands, StepSkips, skip_of}

@@ -8,9 +8,9 @@ use Rattle.redo_record.specs.declared.record.Record.{Record}
 use Rattle.redo_record.specs.declared.record.Record.TheVariants.{Extend, Lower}
 use Rattle.redo_model.specs.Segments.{extents_of, data_of, data_blocks}
 use Rattle.redo_laws.specs.Among.{is_in}
-use Rattle.redo_laws.proofs.ApartLaw.{is_listed}
-use Rattle.redo_laws.proofs.LowMark.{data_of-append}
-use Rattle.redo_laws.proofs.Since.{each_since}
+use Rattle.redo_laws.proofs.space.ApartLaw.{is_listed}
+use Rattle.redo_laws.proofs.space.LowMark.{data_of-append}
+use Rattle.redo_laws.proofs.lists.Since.{each_since}
 use Rattle.shrink_laws.specs.Grown.{lowers, DataBlocksGrow}
 
 pub append_more : (xs ys zs : List ℕ) → (xs ++ ys) ++ zs ≡ xs ++ (ys ++ zs)

@@ -12,7 +12,7 @@ use Rattle.redo_record.specs.declared.row.MoveRecord.{MoveRecord}
 use Rattle.redo_model.specs.Effects.{Step, Adds, row_step, move_step}
 use Rattle.redo_model.specs.AllowedRows.{InsertAllowed, UpdateAllowed, MigrateAllowed, migrates_plain, migrates_again, ReturnAllowed, DeleteAllowed, deletes_plain, deletes_migrated}
 use Rattle.redo_model.specs.AllowedMoves.{MoveAllowed, moves_plain, moves_to_body, moves_migrated}
-use Rattle.redo_laws.proofs.ImageFacts.{IsKept, NewHave, AllHave, Puts, all_have}
+use Rattle.redo_laws.proofs.steps.ImageFacts.{IsKept, NewHave, AllHave, Puts, all_have}
 use Rattle.shrink_laws.specs.Heads.{HeadsAreApart}
 
 -- an image in block b that is a head leads to another block

@@ -7,7 +7,7 @@ use Rattle.redo_record.specs.declared.record.Record.{Record}
 use Rattle.redo_record.specs.declared.record.Record.TheVariants.{Lower}
 use Rattle.redo_record.specs.declared.space.LowerRecord.{LowerRecord}
 use Rattle.redo_model.specs.Segments.{extents_of, data_of, data_blocks, Marks, marks, under_high}
-use Rattle.redo_laws.proofs.Places.{front_of}
+use Rattle.redo_laws.proofs.space.Places.{front_of}
 use Rattle.shrink_laws.specs.Lowered.{OtherLeft, LowersLeaveTheRest}
 
 other_left : (sh : Shape) (R : List Record) (l : LowerRecord) (o : ℕ) → (l.obj ≡ o → ⊥) → OtherLeft sh R l o

@@ -11,7 +11,7 @@ use Rattle.redo_record.specs.declared.part.BackPart.{BackPart}
 use Rattle.redo_model.specs.Effects.{Effect, Still, Formats, Adds, TakesBack, Cleans, effect_of, written, restored}
 use Rattle.redo_model.specs.Slots.{is_place, placed_in, changed_image, image}
 use Rattle.redo_laws.specs.Added.{names_slot}
-use Rattle.redo_laws.proofs.Since.{each_since}
+use Rattle.redo_laws.proofs.lists.Since.{each_since}
 use Rattle.shrink_laws.specs.Stops.{back_names, is_named_by}
 use Rattle.shrink_laws.specs.Named.{formats, HoldsTheSame, SlotsHoldUntilNamed}
 

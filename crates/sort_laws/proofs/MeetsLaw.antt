@@ -21,16 +21,16 @@ use Rattle.redo_model.specs.Slots.{changed_image, image}
 use Rattle.redo_model.specs.AllowedTables.{ExtendAllowed, FormatAllowed, ClassAllowed, StatesBitmaps}
 use Rattle.redo_model.specs.Lawful.{IsKindAllowed, IsOverflow, AreAllowed}
 use Rattle.redo_laws.specs.Among.{is_in}
-use Rattle.redo_laws.proofs.AllKinds.{shape_of}
-use Rattle.redo_laws.proofs.Apart.{apart_extents}
-use Rattle.redo_laws.proofs.ApartLaw.{placed}
-use Rattle.redo_laws.proofs.Bounds.{limits}
-use Rattle.redo_laws.proofs.Facts.{BackFits, EffectFits}
-use Rattle.redo_laws.proofs.Known.{turn}
-use Rattle.redo_laws.proofs.Places.{in_take, in_contains, segments, a_table, format_first}
-use Rattle.redo_laws.proofs.Shapes.{empty_of}
-use Rattle.redo_laws.proofs.TxnTable.{txn_table}
-use Rattle.redo_laws.proofs.Whole.{record_fits}
+use Rattle.redo_laws.proofs.allowed.AllKinds.{shape_of}
+use Rattle.redo_laws.proofs.space.Apart.{apart_extents}
+use Rattle.redo_laws.proofs.space.ApartLaw.{placed}
+use Rattle.redo_laws.proofs.numbers.Bounds.{limits}
+use Rattle.redo_laws.proofs.steps.Facts.{BackFits, EffectFits}
+use Rattle.redo_laws.proofs.numbers.Known.{turn}
+use Rattle.redo_laws.proofs.space.Places.{in_take, in_contains, segments, a_table, format_first}
+use Rattle.redo_laws.proofs.allowed.Shapes.{empty_of}
+use Rattle.redo_laws.proofs.numbers.TxnTable.{txn_table}
+use Rattle.redo_laws.proofs.spread.Whole.{record_fits}
 use Rattle.sort_laws.specs.Sorts.{First, Second, Third, sort_of, changes_table, MapsFit, RecordsMeetSorts, ReuseMayComeFirst, CalledReusesFindTable}
 use Rattle.sort_laws.specs.Touched.{first_of}
 use Rattle.space_laws.proofs.BestsLaw.{index_is}

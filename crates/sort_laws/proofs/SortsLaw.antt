@@ -13,10 +13,10 @@ use Rattle.redo_model.specs.Undo.{undo_sequence}
 use Rattle.redo_model.specs.AllowedTables.{ExtendAllowed}
 use Rattle.redo_model.specs.Lawful.{IsKindAllowed, AreAllowed}
 use Rattle.redo_laws.specs.Among.{is_in}
-use Rattle.redo_laws.proofs.Bools.{off}
-use Rattle.redo_laws.proofs.Bounds.{Limits, limits, reuse_bound}
-use Rattle.redo_laws.proofs.LowMark.{apart}
-use Rattle.redo_laws.proofs.Places.{in_take, contains_in, in_data, IsNumber, segments, a_table, format_first, free_has}
+use Rattle.redo_laws.proofs.lists.Bools.{off}
+use Rattle.redo_laws.proofs.numbers.Bounds.{Limits, limits, reuse_bound}
+use Rattle.redo_laws.proofs.space.LowMark.{apart}
+use Rattle.redo_laws.proofs.space.Places.{in_take, contains_in, in_data, IsNumber, segments, a_table, format_first, free_has}
 use Rattle.sort_laws.specs.Touched.{touched}
 use Rattle.sort_laws.specs.Sorts.{Sort, Blank, Rows, Undo, Txns, First, Second, Third, as_txns, sort_after, sort_of, SortsAreMade}
 use Rattle.space_laws.proofs.ExtentsLaw.{found_has, head_few, group_heads, each_block_has_one_role}

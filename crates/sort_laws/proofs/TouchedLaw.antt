@@ -13,11 +13,11 @@ use Rattle.redo_model.specs.Segments.{Extent, extents_of, data_blocks, high_mark
 use Rattle.redo_model.specs.AllowedTables.{l2_at}
 use Rattle.redo_model.specs.Lawful.{IsKindAllowed, AreAllowed}
 use Rattle.redo_laws.specs.Among.{is_in}
-use Rattle.redo_laws.proofs.ApartLaw.{placed}
-use Rattle.redo_laws.proofs.Basics.{EffectBasics, basics}
-use Rattle.redo_laws.proofs.Bounds.{Limits, limits, data_bound, current_bound, reuse_bound}
-use Rattle.redo_laws.proofs.Every.{Every, every-map}
-use Rattle.redo_laws.proofs.Places.{in_contains, in_take, format_first, has_taken}
+use Rattle.redo_laws.proofs.space.ApartLaw.{placed}
+use Rattle.redo_laws.proofs.allowed.Basics.{EffectBasics, basics}
+use Rattle.redo_laws.proofs.numbers.Bounds.{Limits, limits, data_bound, current_bound, reuse_bound}
+use Rattle.redo_laws.proofs.lists.Every.{Every, every-map}
+use Rattle.redo_laws.proofs.space.Places.{in_contains, in_take, format_first, has_taken}
 use Rattle.page_laws.specs.Fits.{blocks_of, back_blocks}
 use Rattle.sort_laws.specs.Touched.{touched_by_row, first_of, touched, those, headed, TouchedAreThere}
 use Rattle.page_laws.proofs.FitsLaw.{SomeHome, step_home, back_home}

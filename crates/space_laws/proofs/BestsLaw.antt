@@ -13,9 +13,9 @@ use Rattle.redo_model.specs.Segments.{Extent, extents_of, in_extent, extent_data
 use Rattle.redo_model.specs.Kept.{code_of, good_code, best_of, best_in_extent, best_in_group, best_in_l2, best_of_found, best_in_l1}
 use Rattle.redo_model.specs.Lawful.{IsKindAllowed, AreAllowed}
 use Rattle.redo_laws.specs.Among.{is_in}
-use Rattle.redo_laws.proofs.Bools.{off}
-use Rattle.redo_laws.proofs.Apart.{Apart, apart_extents}
-use Rattle.redo_laws.proofs.Places.{in_contains, in_take, in_range, data_in_extent, IsNumber, segments, a_table, same_extent, format_first, extend_out}
+use Rattle.redo_laws.proofs.lists.Bools.{off}
+use Rattle.redo_laws.proofs.space.Apart.{Apart, apart_extents}
+use Rattle.redo_laws.proofs.space.Places.{in_contains, in_take, in_range, data_in_extent, IsNumber, segments, a_table, same_extent, format_first, extend_out}
 use Rattle.space_laws.specs.Bests.{names_l1, names_l2, BestsStay, BestsAreStated}
 use Rattle.space_laws.proofs.ExtentsLaw.{found_has, data_at, at_data, same_place}
 

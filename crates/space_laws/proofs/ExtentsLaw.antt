@@ -11,11 +11,11 @@ use Rattle.redo_model.specs.Segments.{Extent, extents_of, blocks_from, extent_da
 use Rattle.redo_model.specs.AllowedTables.{LowerAllowed}
 use Rattle.redo_model.specs.Lawful.{IsKindAllowed, AreAllowed}
 use Rattle.redo_laws.specs.Among.{is_in}
-use Rattle.redo_laws.proofs.Apart.{Apart, apart_extents}
-use Rattle.redo_laws.proofs.Bools.{off}
-use Rattle.redo_laws.proofs.ApartLaw.{number_in, placed}
-use Rattle.redo_laws.proofs.Bounds.{limits}
-use Rattle.redo_laws.proofs.Places.{in_contains, contains_in, in_left, in_right, in_either, in_range, IsNumber, Segments, segments, same_extent, a_table}
+use Rattle.redo_laws.proofs.space.Apart.{Apart, apart_extents}
+use Rattle.redo_laws.proofs.lists.Bools.{off}
+use Rattle.redo_laws.proofs.space.ApartLaw.{number_in, placed}
+use Rattle.redo_laws.proofs.numbers.Bounds.{limits}
+use Rattle.redo_laws.proofs.space.Places.{in_contains, contains_in, in_left, in_right, in_either, in_range, IsNumber, Segments, segments, same_extent, a_table}
 use Rattle.space_laws.specs.Extents.{IsFreedBy, ExtentsStay, FirstExtentsStay, LowersFreeWhatTheyName, EachBlockHasOneRole}
 
 -- places in a list of extents

@@ -4,7 +4,7 @@ use Rattle.redo_record.specs.declared.record.Record.{Record}
 use Rattle.redo_record.specs.declared.record.Record.TheVariants.{Extend, Lower}
 use Rattle.redo_model.specs.Lists.{Extends, same, more}
 use Rattle.redo_model.specs.Segments.{Extent, extents_of, extent_at}
-use Rattle.redo_laws.proofs.Prefixes.{extends_length}
+use Rattle.redo_laws.proofs.lists.Prefixes.{extends_length}
 use Rattle.space_laws.specs.Incarnations.{IncarnationsTell}
 
 none_at : (P : Type 0) (e : Extent) → ◌≡◌ {A = Option Extent} None (Some e) → P

@@ -1,8 +1,8 @@
 -- Marks, tables and formatted blocks.
-use Rattle.redo_laws.proofs.ApartLaw.{is_listed}
-use Rattle.redo_laws.proofs.LowMark.{low}
-use Rattle.redo_laws.proofs.Places.{segments, a_table}
-use Rattle.redo_laws.proofs.SpreadLaw.{present_block}
+use Rattle.redo_laws.proofs.space.ApartLaw.{is_listed}
+use Rattle.redo_laws.proofs.space.LowMark.{low}
+use Rattle.redo_laws.proofs.space.Places.{segments, a_table}
+use Rattle.redo_laws.proofs.spread.SpreadLaw.{present_block}
 use Rattle.redo_model.specs.Segments.{data_blocks}
 use Rattle.space_laws.specs.Marks.{MarksAreInOrder, FormattedAreUnderMark, TablesAreFew}
 

@@ -1,4 +1,4 @@
-use Rattle.redo_laws.proofs.ApartLaw as laws
+use Rattle.redo_laws.proofs.space.ApartLaw as laws
 use Rattle.redo_laws.proofs.first.extents_are_apart.Goals as goal
 
 pub returns : goal.returns

@@ -1,4 +1,4 @@
-use Rattle.redo_laws.proofs.After as laws
+use Rattle.redo_laws.proofs.steps.After as laws
 use Rattle.redo_laws.proofs.first.images_after_steps.Goals as goal
 
 pub returns : goal.returns

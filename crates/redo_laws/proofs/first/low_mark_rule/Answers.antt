@@ -1,4 +1,4 @@
-use Rattle.redo_laws.proofs.LowMark as laws
+use Rattle.redo_laws.proofs.space.LowMark as laws
 use Rattle.redo_laws.proofs.first.low_mark_rule.Goals as goal
 
 pub returns : goal.returns

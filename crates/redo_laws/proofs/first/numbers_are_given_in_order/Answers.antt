@@ -1,4 +1,4 @@
-use Rattle.redo_laws.proofs.Ordinals as laws
+use Rattle.redo_laws.proofs.numbers.Ordinals as laws
 use Rattle.redo_laws.proofs.first.numbers_are_given_in_order.Goals as goal
 
 pub returns : goal.returns

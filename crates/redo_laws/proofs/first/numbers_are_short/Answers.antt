@@ -1,4 +1,4 @@
-use Rattle.redo_laws.proofs.Bounds as laws
+use Rattle.redo_laws.proofs.numbers.Bounds as laws
 use Rattle.redo_laws.proofs.first.numbers_are_short.Goals as goal
 
 pub returns : goal.returns

@@ -1,4 +1,4 @@
-use Rattle.redo_laws.proofs.After as laws
+use Rattle.redo_laws.proofs.steps.After as laws
 use Rattle.redo_laws.proofs.first.records_name_tables.Goals as goal
 
 pub returns : goal.returns

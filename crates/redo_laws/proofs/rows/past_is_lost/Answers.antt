@@ -1,4 +1,4 @@
-use Rattle.redo_laws.proofs.PastLaw as laws
+use Rattle.redo_laws.proofs.spread.PastLaw as laws
 use Rattle.redo_laws.proofs.rows.past_is_lost.Goals as goal
 
 pub returns : goal.returns

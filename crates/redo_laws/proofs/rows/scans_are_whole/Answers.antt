@@ -1,4 +1,4 @@
-use Rattle.redo_laws.proofs.ScanLaw as laws
+use Rattle.redo_laws.proofs.spread.ScanLaw as laws
 use Rattle.redo_laws.proofs.rows.scans_are_whole.Goals as goal
 
 pub returns : goal.returns

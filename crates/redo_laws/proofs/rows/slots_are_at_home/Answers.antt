@@ -1,4 +1,4 @@
-use Rattle.redo_laws.proofs.HomesLaw as laws
+use Rattle.redo_laws.proofs.homes.HomesLaw as laws
 use Rattle.redo_laws.proofs.rows.slots_are_at_home.Goals as goal
 
 pub returns : goal.returns

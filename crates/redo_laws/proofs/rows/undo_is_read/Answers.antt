@@ -1,4 +1,4 @@
-use Rattle.redo_laws.proofs.ReadsLaw as laws
+use Rattle.redo_laws.proofs.undo.ReadsLaw as laws
 use Rattle.redo_laws.proofs.rows.undo_is_read.Goals as goal
 
 pub returns : goal.returns

@@ -1,4 +1,4 @@
-use Rattle.redo_laws.proofs.SpreadLaw as laws
+use Rattle.redo_laws.proofs.spread.SpreadLaw as laws
 use Rattle.redo_laws.proofs.rows.view_of_no_transaction_is_the_table.Goals as goal
 
 pub returns : goal.returns

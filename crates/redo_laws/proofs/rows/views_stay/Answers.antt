@@ -1,4 +1,4 @@
-use Rattle.redo_laws.proofs.StaysLaw as laws
+use Rattle.redo_laws.proofs.spread.StaysLaw as laws
 use Rattle.redo_laws.proofs.rows.views_stay.Goals as goal
 
 pub returns : goal.returns

@@ -1,0 +1,4 @@
+-- Each image and the record that made it.
+pub mod Links
+pub mod ChainLaw
+pub mod WritersLaw

@@ -1,0 +1,4 @@
+-- What blocks count, and that it fits.
+pub mod RoomKinds
+pub mod RoomLaw
+pub mod FitLaw

@@ -1,26 +1,11 @@
 -- The blocks of an active transaction's records are row blocks of their table, and show their row.
-use Rattle.std.proofs.Common.{◌≡◌, ℕ, suc, ◌≤◌, Bool, true, false, eqb, List, [], ◌∷◌, Option, Some, None, refl, sym, ◌∙◌, ap, subst, arith, inl, inr, le_trans}
-use Rattle.std.proofs.lemmas.Bool.{true≢false, cases_Bool, eqb-true, eq-eqb, cond-true, cond-false}
-use Rattle.seg_base.specs.declared.shape.Shape.{Shape}
-use Rattle.seg_base.specs.declared.slot.Slot.{Slot}
-use Rattle.seg_base.specs.declared.slot.UndoAddr.{UndoAddr}
-use Rattle.seg_base.specs.declared.slot.Writer.{Writer}
-use Rattle.seg_base.specs.declared.slot.Writer.TheVariants.{By, At}
-use Rattle.seg_base.specs.Room.{is_empty}
-use Rattle.redo_record.specs.declared.record.Record.{Record}
-use Rattle.redo_record.specs.declared.record.Record.TheVariants.{Table, Extend, Lower, Insert, Update, Migrate, Return, Delete, Move}
-use Rattle.redo_record.specs.declared.part.RowPart.{RowPart}
-use Rattle.redo_record.specs.declared.row.RowBody.{RowBody}
-use Rattle.redo_model.specs.Effects.{Step, Effect, Still, Formats, Adds, TakesBack, Cleans, effect_of, row_step, move_step}
-use Rattle.redo_model.specs.Ordinals.{txn_count, row_count}
-use Rattle.redo_model.specs.Transactions.{is_active}
-use Rattle.redo_model.specs.Steps.{is_by, is_addr, standing, standing_steps, newest_of, newest_on}
-use Rattle.redo_model.specs.Tables.{holds_row}
-use Rattle.redo_model.specs.Slots.{image}
-use Rattle.redo_model.specs.Segments.{IsTable, IsRowBlock, data_blocks, table_count}
-use Rattle.redo_model.specs.Versions.{Made, without, makers, row_in}
-use Rattle.redo_model.specs.AllowedRows.{InsertAllowed, MigrateAllowed, migrates_plain, migrates_again, DeleteAllowed, deletes_plain, deletes_migrated}
-use Rattle.redo_model.specs.Lawful.{IsKindAllowed, AreAllowed}
+use Rattle.std.proofs.Common.{◌≡◌, ℕ, suc, ◌≤◌, Bool, true, false, eqb, List, [], ◌∷◌, Option, Some, None, refl, sym, ◌∙◌, ap, subst, arith, inl, inr, le_trans, true≢false, eqb-true, eq-eqb}
+use Rattle.seg_words.proofs.Lemmas.{cases_Bool, cond-true, cond-false}
+use Rattle.seg_words.specs.Types.{Shape, Slot, UndoAddr, Writer, By, At, is_empty}
+use Rattle.redo_model.specs.Records.{Record, Table, Extend, Lower, Insert, Update, Migrate, Return, Delete, Move, RowPart, RowBody}
+use Rattle.redo_model.specs.Model.{Step, Effect, effect_of, row_step, move_step, txn_count, row_count, is_active, is_by, is_addr, standing, standing_steps, newest_of, newest_on, holds_row, image, IsTable, IsRowBlock, data_blocks, table_count, Made, without, makers, row_in, InsertAllowed, MigrateAllowed, DeleteAllowed, IsKindAllowed, AreAllowed}
+use Rattle.redo_model.specs.Effects.{Still, Formats, Adds, TakesBack, Cleans}
+use Rattle.redo_model.specs.AllowedRows.{migrates_plain, migrates_again, deletes_plain, deletes_migrated}
 use Rattle.redo_laws.specs.Among.{is_in, IsOneOf}
 use Rattle.redo_laws.specs.Economy.{EachStep}
 use Rattle.redo_laws.proofs.lists.Among.{one_has, each_one, each_from}

@@ -1,25 +1,11 @@
 -- The list entries of active transactions stay where their records put them.
-use Rattle.std.proofs.Common.{◌≡◌, ℕ, ◌<◌, ◌≤◌, Bool, true, false, cond, not, ◌&&◌, ◌||◌, eqb, ltb, leb, List, [], ◌∷◌, length, get_or, Option, Some, None, refl, sym, ◌∙◌, ap, subst, arith, ◌⊎◌, inl, inr, le_trans}
-use Rattle.std.specs.List.{position_or_len}
-use Rattle.std.proofs.lemmas.Bool.{true≢false, cases_Bool, eqb-true, eqb-false, ne_eqb, eq-eqb, cond-true, cond-false, and_parts, and_from, or_cases, or_right, ltb-true, ltb-false, lt-ltb}
-use Rattle.std.proofs.lemmas.List.Sums.{position_or_len_is, fails_before_first, passes_at_first}
-use Rattle.seg_base.specs.declared.shape.Shape.{Shape}
-use Rattle.seg_base.specs.declared.slot.ListEntry.{ListEntry}
-use Rattle.seg_base.specs.declared.slot.Writer.{Writer}
-use Rattle.seg_base.specs.declared.slot.Writer.TheVariants.{By, At}
-use Rattle.seg_base.specs.Blocks.{Block, new_entry}
-use Rattle.seg_base.specs.Cleaning.{number_of, entry_as_told, clean_entry}
-use Rattle.seg_base.specs.Room.{names, is_spare, entry_for, free_of as free_by}
-use Rattle.redo_record.specs.declared.record.Record.{Record}
-use Rattle.redo_record.specs.declared.part.RowPart.{RowPart}
-use Rattle.redo_model.specs.Effects.{Step, Effect, Still, Formats, Adds, TakesBack, Cleans, effect_of}
-use Rattle.redo_model.specs.Ordinals.{txn_count}
-use Rattle.redo_model.specs.Transactions.{is_active, ended_in}
-use Rattle.redo_model.specs.Steps.{is_by, standing, standing_steps}
-use Rattle.redo_model.specs.Slots.{is_place, is_at, entered_in, entered_by, changed_entry, entry, reach_entry, entries_reached, count_entered, changed_entry_count, entry_count}
-use Rattle.redo_model.specs.Blocks.{block_of, entries_of}
-use Rattle.redo_model.specs.Versions.{Made, without, makers}
-use Rattle.redo_model.specs.Lawful.{AreAllowed}
+use Rattle.std.proofs.Common.{◌≡◌, ℕ, ◌<◌, ◌≤◌, Bool, true, false, cond, not, ◌&&◌, ◌||◌, eqb, ltb, leb, List, [], ◌∷◌, length, get_or, Option, Some, None, refl, sym, ◌∙◌, ap, subst, arith, ◌⊎◌, inl, inr, le_trans, true≢false, eqb-true, ne_eqb, eq-eqb, ltb-true, ltb-false, lt-ltb}
+use Rattle.seg_words.specs.Types.{position_or_len, Shape, ListEntry, Writer, By, At, Block, new_entry, number_of, entry_as_told, clean_entry, names, is_spare, entry_for, free_of as free_by}
+use Rattle.seg_words.proofs.Lemmas.{cases_Bool, eqb-false, cond-true, cond-false, and_parts, and_from, or_cases, or_right, passes_at_first}
+use Rattle.std.proofs.lemmas.List.Sums.{position_or_len_is, fails_before_first}
+use Rattle.redo_model.specs.Records.{Record, RowPart}
+use Rattle.redo_model.specs.Model.{Step, Effect, effect_of, txn_count, is_active, ended_in, is_by, standing, standing_steps, is_place, is_at, entered_in, entered_by, changed_entry, entry, reach_entry, entries_reached, count_entered, changed_entry_count, entry_count, block_of, entries_of, Made, without, makers, AreAllowed}
+use Rattle.redo_model.specs.Effects.{Still, Formats, Adds, TakesBack, Cleans}
 use Rattle.redo_model.proofs.Bridge.{entry_is, entry_count_is}
 use Rattle.redo_laws.specs.Among.{IsOneOf}
 use Rattle.redo_laws.specs.Economy.{EachStep}

@@ -1,20 +1,9 @@
 -- What the standing records of an active transaction state is still so when they are taken back: their list entries are
 -- the transaction's, their blocks are row blocks of the row's table, and their undo is all there.
 use Rattle.std.specs.Prelude.{◌≡◌, ℕ, ◌<◌, ◌≤◌, cond, true, List, [], ◌∷◌, Some}
-use Rattle.seg_base.specs.declared.shape.Shape.{Shape}
-use Rattle.seg_base.specs.declared.slot.Slot.{Slot}
-use Rattle.seg_base.specs.declared.slot.Writer.TheVariants.{By}
-use Rattle.seg_base.specs.Room.{entry_for, is_empty}
-use Rattle.redo_record.specs.declared.record.Record.{Record}
-use Rattle.redo_record.specs.declared.part.RowPart.{RowPart}
-use Rattle.redo_model.specs.Effects.{Step}
-use Rattle.redo_model.specs.Ordinals.{row_count}
-use Rattle.redo_model.specs.Transactions.{is_active, ended_in}
-use Rattle.redo_model.specs.Steps.{standing, newest_of}
-use Rattle.redo_model.specs.Segments.{IsTable, IsRowBlock}
-use Rattle.redo_model.specs.Slots.{image, entry, entry_count}
-use Rattle.redo_model.specs.Blocks.{block_of}
-use Rattle.redo_model.specs.Lawful.{AreAllowed}
+use Rattle.seg_words.specs.Types.{Shape, Slot, By, entry_for, is_empty}
+use Rattle.redo_model.specs.Records.{Record, RowPart}
+use Rattle.redo_model.specs.Model.{Step, row_count, is_active, ended_in, standing, newest_of, IsTable, IsRowBlock, image, entry, entry_count, block_of, AreAllowed}
 use Rattle.redo_laws.specs.Economy.{EachStep}
 use Rattle.redo_laws.specs.Homes.{row_table}
 

@@ -1,15 +1,7 @@
 -- Taking back goes on.
-use Rattle.std.proofs.Common.{◌≡◌, ℕ, true, not, List, [], ◌∷◌, Option, Some, None, refl, sym, ◌∙◌, ap, subst}
-use Rattle.std.proofs.lemmas.Bool.{true≢false}
-use Rattle.redo_record.specs.declared.record.Record.{Record}
-use Rattle.redo_record.specs.declared.record.Record.TheVariants.{Table, Reuse, Back, Ended}
-use Rattle.redo_record.specs.declared.row.BackRecord.{BackRecord}
-use Rattle.redo_record.specs.declared.transaction.EndedRecord.{EndedRecord}
-use Rattle.redo_model.specs.Effects.{Step}
-use Rattle.redo_model.specs.Transactions.{entry_of}
-use Rattle.redo_model.specs.Steps.{standing, newest_of, undo_of_step, without_step}
-use Rattle.redo_model.specs.AllowedRows.{taken_back}
-use Rattle.redo_model.specs.Lawful.{IsCalledFor, is_whole}
+use Rattle.std.proofs.Common.{◌≡◌, ℕ, true, not, List, [], ◌∷◌, Option, Some, None, refl, sym, ◌∙◌, ap, subst, true≢false}
+use Rattle.redo_model.specs.Records.{Record, Table, Reuse, Back, Ended, BackRecord, EndedRecord}
+use Rattle.redo_model.specs.Model.{Step, entry_of, standing, newest_of, undo_of_step, without_step, taken_back, IsCalledFor, is_whole}
 use Rattle.redo_laws.proofs.lists.Every.{every-map, filter-all, filter-swap}
 use Rattle.redo_laws.proofs.steps.Facts.{BackFits}
 use Rattle.redo_laws.proofs.steps.Held.{Tops, tops, own, own_newest, others_own, Distinct, distinct_filter}

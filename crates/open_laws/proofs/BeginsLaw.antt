@@ -1,13 +1,10 @@
 -- Few are active, so a session can begin.
-use Rattle.std.proofs.Common.{◌≡◌, ◌⊎◌, ℕ, zero, suc, ◌-◌, ◌≤◌, ◌<◌, Bool, true, false, eqb, List, [], ◌∷◌, Option, Some, None, refl, sym, ◌∙◌, ap, arith, inl, inr}
-use Rattle.std.proofs.lemmas.Bool.{cond-false, cases_Bool, eqb-true, eqb-false, true≢false}
-use Rattle.seg_base.specs.declared.shape.Shape.{Shape}
-use Rattle.redo_record.specs.declared.record.Record.{Record}
-use Rattle.redo_record.specs.declared.record.Record.TheVariants.{Table, Reuse, Begin}
-use Rattle.redo_model.specs.Ordinals.{txn_count}
-use Rattle.redo_model.specs.Transactions.{is_active, commit_number, control_number, user_of}
-use Rattle.redo_model.specs.AllowedTransactions.{EntryState, Unused, InUse, Committed, RolledBack, state_when_over, state_of_user, entry_state, is_unused, is_rolled_back, takes_unused, takes_rolled_back, takes_committed}
-use Rattle.redo_model.specs.Lawful.{IsCalledFor, AreAllowed, is_whole}
+use Rattle.std.proofs.Common.{◌≡◌, ◌⊎◌, ℕ, zero, suc, ◌-◌, ◌≤◌, ◌<◌, Bool, true, false, eqb, List, [], ◌∷◌, Option, Some, None, refl, sym, ◌∙◌, ap, arith, inl, inr, eqb-true, true≢false}
+use Rattle.seg_words.proofs.Lemmas.{cond-false, cases_Bool, eqb-false}
+use Rattle.seg_words.specs.Types.{Shape}
+use Rattle.redo_model.specs.Records.{Record, Table, Reuse, Begin}
+use Rattle.redo_model.specs.Model.{txn_count, is_active, commit_number, control_number, user_of, EntryState, state_when_over, state_of_user, entry_state, is_unused, is_rolled_back, IsCalledFor, AreAllowed, is_whole}
+use Rattle.redo_model.specs.AllowedTransactions.{Unused, InUse, Committed, RolledBack, takes_unused, takes_rolled_back, takes_committed}
 use Rattle.redo_laws.proofs.lists.Bools.{clash}
 use Rattle.redo_laws.proofs.numbers.TxnTable.{TxnTable, txn_table}
 use Rattle.session_laws.specs.Sessions.{own_of}

@@ -1,6 +1,6 @@
 -- Counts of numbers: what goes one to one into the numbers below m is at most m.
-use Rattle.std.proofs.Common.{◌≡◌, ◌⊎◌, ℕ, zero, suc, ◌≤◌, ◌<◌, Bool, true, false, cond, not, eqb, List, [], ◌∷◌, length, filter, refl, sym, ◌∙◌, ap, subst, arith, inl, inr}
-use Rattle.std.proofs.lemmas.Bool.{cond-true, cond-false, cases_Bool, eqb-true, eqb-false, true≢false, or_parts}
+use Rattle.std.proofs.Common.{◌≡◌, ◌⊎◌, ℕ, zero, suc, ◌≤◌, ◌<◌, Bool, true, false, cond, not, eqb, List, [], ◌∷◌, length, filter, refl, sym, ◌∙◌, ap, subst, arith, inl, inr, eqb-true, true≢false}
+use Rattle.seg_words.proofs.Lemmas.{cond-true, cond-false, cases_Bool, eqb-false, or_parts}
 use Rattle.redo_laws.specs.Among.{is_in}
 use Rattle.redo_laws.proofs.space.Apart.{Distinct, distinct-filter}
 use Rattle.redo_laws.proofs.lists.Bools.{off}

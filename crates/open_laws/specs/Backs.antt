@@ -1,15 +1,9 @@
 -- Each active transaction can be taken back, whatever else is active: the next record of its rollback is allowed, takes one of
 -- its steps away and leaves those of all others. So rollbacks, one after the other, leave none active.
 use Rattle.std.specs.Prelude.{◌≡◌, ◌≢◌, ℕ, true, not, ◌&&◌, eqb, List, ◌∷◌, Some, None, filter}
-use Rattle.seg_base.specs.declared.shape.Shape.{Shape}
-use Rattle.redo_record.specs.declared.record.Record.{Record}
-use Rattle.redo_record.specs.declared.record.Record.TheVariants.{Back, Ended}
-use Rattle.redo_record.specs.declared.row.BackRecord.{BackRecord}
-use Rattle.redo_record.specs.declared.transaction.EndedRecord.{EndedRecord}
-use Rattle.redo_model.specs.Effects.{Step}
-use Rattle.redo_model.specs.Transactions.{is_active}
-use Rattle.redo_model.specs.Steps.{is_by, standing, newest_of}
-use Rattle.redo_model.specs.Lawful.{AreAllowed, IsAllowed, IsLawful}
+use Rattle.seg_words.specs.Types.{Shape}
+use Rattle.redo_model.specs.Records.{Record, Back, Ended, BackRecord, EndedRecord}
+use Rattle.redo_model.specs.Model.{Step, is_active, is_by, standing, newest_of, AreAllowed, IsAllowed, IsLawful}
 
 -- a transaction's standing steps, newest first
 abbrev pub own_steps : List Record → ℕ → List Step

@@ -1,14 +1,9 @@
 -- A session without an active transaction can always begin one: at most 64 are active, each of a session, and the table has 96
 -- entries.
 use Rattle.std.specs.Prelude.{◌≡◌, ℕ, zero, suc, ◌≤◌, Bool, false, cond, List}
-use Rattle.seg_base.specs.declared.shape.Shape.{Shape}
-use Rattle.redo_record.specs.declared.record.Record.{Record}
-use Rattle.redo_record.specs.declared.record.Record.TheVariants.{Begin}
-use Rattle.redo_record.specs.declared.transaction.BeginRecord.{BeginRecord}
-use Rattle.redo_model.specs.Ordinals.{txn_count}
-use Rattle.redo_model.specs.Transactions.{is_active, has_open}
-use Rattle.redo_model.specs.AllowedTransactions.{TakesEntry}
-use Rattle.redo_model.specs.Lawful.{AreAllowed, IsAllowed, IsLawful}
+use Rattle.seg_words.specs.Types.{Shape}
+use Rattle.redo_model.specs.Records.{Record, Begin, BeginRecord}
+use Rattle.redo_model.specs.Model.{txn_count, is_active, has_open, TakesEntry, AreAllowed, IsAllowed, IsLawful}
 
 -- at how many of the numbers below n it is so
 abbrev pub count_below : (ℕ → Bool) → ℕ → ℕ

@@ -1,25 +1,11 @@
 -- The parts of a Back fit in turn.
-use Rattle.std.proofs.Common.{◌≡◌, ℕ, zero, suc, ◌+◌, ◌-◌, ◌*◌, ◌<◌, ◌≤◌, max, true, false, cond, ◌||◌, eqb, List, [], ◌∷◌, length, Option, Some, None, refl, sym, ◌∙◌, ap, ap₂, subst, arith, inl, inr, le_refl}
-use Rattle.std.proofs.lemmas.Bool.{cond-true, true≢false, cases_Bool, eqb-true, eq-eqb, and_parts}
-use Rattle.seg_base.specs.declared.shape.Shape.{Shape}
-use Rattle.seg_base.specs.declared.slot.Slot.{Slot}
-use Rattle.seg_base.specs.Cleaning.{number_of_writer, as_told}
-use Rattle.seg_base.specs.Room.{row_size, writer_has_ended}
-use Rattle.row_block.specs.RowPage.{laid_out}
-use Rattle.redo_record.specs.declared.record.Record.{Record}
-use Rattle.redo_record.specs.declared.record.Record.TheVariants.{Back}
-use Rattle.redo_record.specs.declared.part.RowPart.{RowPart}
-use Rattle.redo_record.specs.declared.part.BackPart.{BackPart}
-use Rattle.redo_record.specs.declared.row.BackRecord.{BackRecord}
-use Rattle.redo_model.specs.Effects.{Step, Effect, Still, Formats, Adds, TakesBack, Cleans, effect_of, Placed, restored}
-use Rattle.redo_model.specs.Ordinals.{txn_count}
-use Rattle.redo_model.specs.Transactions.{is_active, ended_in}
-use Rattle.redo_model.specs.Steps.{standing_steps, standing}
-use Rattle.redo_model.specs.Slots.{is_place, placed_in, image, slots_reached, slot_count, entry_count}
-use Rattle.redo_model.specs.Versions.{makers, without}
-use Rattle.redo_model.specs.Blocks.{place_all, slots_of, entries_of, block_of}
-use Rattle.redo_model.specs.AllowedRows.{taken_back}
-use Rattle.redo_model.specs.Lawful.{AreAllowed}
+use Rattle.std.proofs.Common.{◌≡◌, ℕ, zero, suc, ◌+◌, ◌-◌, ◌*◌, ◌<◌, ◌≤◌, max, true, false, cond, ◌||◌, eqb, List, [], ◌∷◌, length, Option, Some, None, refl, sym, ◌∙◌, ap, ap₂, subst, arith, inl, inr, le_refl, true≢false, eqb-true, eq-eqb}
+use Rattle.seg_words.proofs.Lemmas.{cond-true, cases_Bool, and_parts}
+use Rattle.seg_words.specs.Types.{Shape, Slot, number_of_writer, as_told, row_size, writer_has_ended}
+use Rattle.row_block.specs.Types.{laid_out}
+use Rattle.redo_model.specs.Records.{Record, Back, RowPart, BackPart, BackRecord}
+use Rattle.redo_model.specs.Model.{Step, Effect, effect_of, Placed, restored, txn_count, is_active, ended_in, standing_steps, standing, is_place, placed_in, image, slots_reached, slot_count, entry_count, makers, without, place_all, slots_of, entries_of, block_of, taken_back, AreAllowed}
+use Rattle.redo_model.specs.Effects.{Still, Formats, Adds, TakesBack, Cleans}
 use Rattle.redo_model.proofs.Bridge.{count_is, entry_count_is}
 use Rattle.redo_laws.specs.Fit.{BackPartFits, EachBackFits}
 use Rattle.redo_laws.proofs.lists.Every.{Every, every-map, every-filter}

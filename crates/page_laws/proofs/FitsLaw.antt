@@ -1,26 +1,11 @@
 -- An allowed record fits the row blocks that it names, and they are formatted.
-use Rattle.std.proofs.Common.{◌≡◌, ℕ, true, false, ◌||◌, eqb, List, [], ◌∷◌, Option, Some, None, refl, sym, ◌∙◌, subst, inl, inr}
-use Rattle.std.proofs.lemmas.Bool.{true≢false, eqb-true, or_cases}
-use Rattle.seg_base.specs.declared.shape.Shape.{Shape}
-use Rattle.seg_base.specs.declared.slot.Slot.{Slot}
-use Rattle.seg_base.specs.declared.slot.Writer.{Writer}
-use Rattle.seg_base.specs.declared.slot.Writer.TheVariants.{By, At}
-use Rattle.seg_base.specs.Blocks.{Block}
-use Rattle.seg_base.specs.Room.{is_empty}
-use Rattle.row_block.specs.RowPage.{CanPut, CanEnter}
-use Rattle.redo_record.specs.declared.record.Record.{Record}
-use Rattle.redo_record.specs.declared.record.Record.TheVariants.{Insert, Update, Migrate, Return, Delete, Move, Back, Clean}
-use Rattle.redo_record.specs.declared.part.RowPart.{RowPart}
-use Rattle.redo_record.specs.declared.part.BackPart.{BackPart}
-use Rattle.redo_record.specs.declared.row.BackRecord.{BackRecord}
-use Rattle.redo_model.specs.Effects.{Step, Effect, Still, Formats, Adds, TakesBack, Cleans, effect_of, written, restored, row_step, move_step}
-use Rattle.redo_model.specs.Transactions.{is_active}
-use Rattle.redo_model.specs.Steps.{standing}
-use Rattle.redo_model.specs.Slots.{image}
-use Rattle.redo_model.specs.Versions.{makers, without}
-use Rattle.redo_model.specs.Blocks.{place_all, enter_by, slots_of, entries_of, block_of}
-use Rattle.redo_model.specs.Segments.{IsRowBlock}
-use Rattle.redo_model.specs.Lawful.{IsKindAllowed, AreAllowed}
+use Rattle.std.proofs.Common.{◌≡◌, ℕ, true, false, ◌||◌, eqb, List, [], ◌∷◌, Option, Some, None, refl, sym, ◌∙◌, subst, inl, inr, true≢false, eqb-true}
+use Rattle.seg_words.proofs.Lemmas.{or_cases}
+use Rattle.seg_words.specs.Types.{Shape, Slot, Writer, By, At, Block, is_empty}
+use Rattle.row_block.specs.Types.{CanPut, CanEnter}
+use Rattle.redo_model.specs.Records.{Record, Insert, Update, Migrate, Return, Delete, Move, Back, Clean, RowPart, BackPart, BackRecord}
+use Rattle.redo_model.specs.Model.{Step, Effect, effect_of, written, restored, row_step, move_step, is_active, standing, image, makers, without, place_all, enter_by, slots_of, entries_of, block_of, IsRowBlock, IsKindAllowed, AreAllowed}
+use Rattle.redo_model.specs.Effects.{Still, Formats, Adds, TakesBack, Cleans}
 use Rattle.redo_laws.specs.Among.{is_in, AreSome}
 use Rattle.redo_laws.proofs.allowed.AllKinds.{OldShape, RecordShape, shape_of}
 use Rattle.redo_laws.proofs.lists.Every.{Every, every-map}

@@ -1,32 +1,15 @@
 -- The parts of a step fit in turn.
-use Rattle.std.proofs.Common.{◌≡◌, ◌⊎◌, ℕ, suc, ◌+◌, ◌-◌, ◌*◌, ◌≤◌, max, true, false, cond, not, ◌||◌, eqb, List, [], ◌∷◌, ◌++◌, length, get_or, Option, Some, None, refl, sym, ◌∙◌, ap, ap₂, subst, arith, inl, inr, le_refl, le_trans}
-use Rattle.std.proofs.lemmas.Bool.{cond-true, true≢false, cases_Bool, eq-eqb}
-use Rattle.std.specs.List.{sum_by}
-use Rattle.seg_base.specs.declared.shape.Shape.{Shape}
-use Rattle.seg_base.specs.declared.slot.Slot.{Slot}
-use Rattle.seg_base.specs.declared.slot.ListEntry.{ListEntry}
-use Rattle.seg_base.specs.declared.slot.Writer.{Writer}
-use Rattle.seg_base.specs.declared.slot.Writer.TheVariants.{By, At}
-use Rattle.seg_base.specs.Blocks.{new_slot, new_entry, put}
-use Rattle.seg_base.specs.Room.{row_size, slot_size, writer_has_ended}
+use Rattle.std.proofs.Common.{◌≡◌, ◌⊎◌, ℕ, suc, ◌+◌, ◌-◌, ◌*◌, ◌≤◌, max, true, false, cond, not, ◌||◌, eqb, List, [], ◌∷◌, ◌++◌, length, get_or, Option, Some, None, refl, sym, ◌∙◌, ap, ap₂, subst, arith, inl, inr, le_refl, le_trans, true≢false, eq-eqb, sum_by}
+use Rattle.seg_words.proofs.Lemmas.{cond-true, cases_Bool}
+use Rattle.seg_words.specs.Types.{Shape, Slot, ListEntry, Writer, By, At, new_slot, new_entry, put, row_size, slot_size, writer_has_ended}
 use Rattle.seg_base.proofs.Puts.{length-put}
-use Rattle.row_block.specs.RowPage.{laid_out, CanPut, CanEnter}
-use Rattle.redo_record.specs.declared.record.Record.{Record}
-use Rattle.redo_record.specs.declared.record.Record.TheVariants.{Insert}
-use Rattle.redo_record.specs.declared.part.RowPart.{RowPart}
-use Rattle.redo_record.specs.declared.row.RowBody.{RowBody}
-use Rattle.redo_model.specs.Effects.{Step, Adds, effect_of, written}
-use Rattle.redo_model.specs.Ordinals.{txn_count}
-use Rattle.redo_model.specs.Transactions.{is_active, ended_in}
-use Rattle.redo_model.specs.Steps.{standing}
-use Rattle.redo_model.specs.Slots.{is_place, placed_in, image, slots_reached, slot_count, reach_entry, entries_reached, count_entered, entry_count}
-use Rattle.redo_model.specs.Versions.{makers}
-use Rattle.redo_model.specs.Blocks.{place_all, enter_at, enter_all, enter_by, slots_of, entries_of, block_of}
-use Rattle.redo_model.specs.Lawful.{AreAllowed}
+use Rattle.row_block.specs.Types.{laid_out, CanPut, CanEnter}
+use Rattle.redo_model.specs.Records.{Record, Insert, RowPart, RowBody}
+use Rattle.redo_model.specs.Model.{Step, effect_of, written, txn_count, is_active, ended_in, standing, is_place, placed_in, image, slots_reached, slot_count, reach_entry, entries_reached, count_entered, entry_count, makers, place_all, enter_at, enter_all, enter_by, slots_of, entries_of, block_of, AreAllowed}
+use Rattle.redo_model.specs.Effects.{Adds}
 use Rattle.redo_model.proofs.Bridge.{image_is, count_is, entry_count_is}
 use Rattle.redo_laws.specs.Among.{IsOneOf, AreSome}
-use Rattle.redo_laws.specs.Fit.{PartFits, EachFits}
-use Rattle.redo_laws.specs.Fit.{EffectFits as BlocksFit}
+use Rattle.redo_laws.specs.Fit.{PartFits, EachFits, EffectFits as BlocksFit}
 use Rattle.redo_laws.proofs.lists.Every.{Every, every-map}
 use Rattle.redo_laws.proofs.steps.OnTop.{is_named}
 use Rattle.redo_laws.proofs.steps.Facts.{EffectFits}

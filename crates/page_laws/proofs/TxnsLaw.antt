@@ -1,13 +1,9 @@
 -- The transaction table of a lawful list.
 use Rattle.std.proofs.Common.{◌≡◌, ℕ, zero, suc, ◌+◌, ◌<◌, ◌≤◌, true, List, [], ◌∷◌, length, Option, Some, None, refl, sym, ◌∙◌, subst, arith}
-use Rattle.seg_base.specs.declared.shape.Shape.{Shape}
-use Rattle.seg_base.specs.declared.slot.UndoAddr.{UndoAddr}
-use Rattle.redo_record.specs.declared.record.Record.{Record}
-use Rattle.redo_model.specs.Effects.{Step, Effect, Still, Formats, Adds, TakesBack, Cleans, effect_of}
-use Rattle.redo_model.specs.Transactions.{is_active, entry_of}
-use Rattle.redo_model.specs.Steps.{standing_steps, standing, newest_of, undo_of_step, last_undo}
-use Rattle.redo_model.specs.Undo.{HeldPart, held_at, undo_held}
-use Rattle.redo_model.specs.Lawful.{AreAllowed}
+use Rattle.seg_words.specs.Types.{Shape, UndoAddr}
+use Rattle.redo_model.specs.Records.{Record}
+use Rattle.redo_model.specs.Model.{Step, Effect, effect_of, is_active, entry_of, standing_steps, standing, newest_of, undo_of_step, last_undo, HeldPart, held_at, undo_held, AreAllowed}
+use Rattle.redo_model.specs.Effects.{Still, Formats, Adds, TakesBack, Cleans}
 use Rattle.redo_laws.proofs.steps.Held.{newest_has, newest_each, newest_is_by}
 use Rattle.redo_laws.specs.Reads.{StandAt, IsThere}
 use Rattle.redo_laws.proofs.lists.Every.{Every, every-filter}

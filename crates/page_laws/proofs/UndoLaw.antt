@@ -1,36 +1,14 @@
 -- Undo pages of a lawful list.
-use Rattle.std.proofs.Common.{◌≡◌, ℕ, suc, ◌+◌, ◌^◌, ◌<◌, ◌≤◌, true, false, cond, eqb, List, [], ◌∷◌, ◌++◌, length, map, Option, Some, None, refl, sym, ◌∙◌, ap, subst, arith}
-use Rattle.std.proofs.lemmas.Bool.{cond-true, not-true, ltb-false, eq-eqb}
-use Rattle.std.proofs.lemmas.List.Sums.{sum_by-cons}
-use Rattle.std.specs.List.{sum_by, AllByRecursion}
-use Rattle.seg_base.specs.declared.shape.Shape.{Shape}
-use Rattle.seg_base.specs.declared.slot.Kind.{Kind}
-use Rattle.seg_base.specs.declared.slot.Kind.TheVariants.{Empty, Row, Head, Body}
-use Rattle.seg_base.specs.declared.slot.Slot.{Slot}
-use Rattle.seg_base.specs.declared.slot.UndoAddr.{UndoAddr}
-use Rattle.seg_base.specs.declared.slot.Rowid.{Rowid}
-use Rattle.seg_base.specs.declared.slot.Writer.{Writer}
-use Rattle.seg_base.specs.declared.slot.Writer.TheVariants.{By, At}
-use Rattle.seg_base.specs.declared.undo.UndoPlace.{UndoPlace}
-use Rattle.seg_base.specs.Places.{is_shape}
-use Rattle.page_bytes.specs.Slots.{len_as, room_as, UndoFits, LinkFits, IsSlot}
+use Rattle.std.proofs.Common.{◌≡◌, ℕ, suc, ◌+◌, ◌^◌, ◌<◌, ◌≤◌, true, false, cond, eqb, List, [], ◌∷◌, ◌++◌, length, map, Option, Some, None, refl, sym, ◌∙◌, ap, subst, arith, ltb-false, eq-eqb, sum_by}
+use Rattle.seg_words.proofs.Lemmas.{cond-true, not-true, sum_by-cons}
+use Rattle.seg_words.specs.Types.{AllByRecursion, Shape, Kind, Empty, Row, Head, Body, Slot, UndoAddr, Rowid, Writer, By, At, UndoPlace, is_shape}
+use Rattle.page_bytes.specs.Types.{len_as, room_as, UndoFits, LinkFits, IsSlot}
 use Rattle.undo_block.specs.Again.{few_parts}
-use Rattle.undo_block.specs.Parts.{used_by}
-use Rattle.undo_block.specs.Parts.{part_size as kept_size}
-use Rattle.undo_block.specs.UndoPage.{IsPart, PlaceFits}
-use Rattle.redo_record.specs.Spelled.{IsUndo, IsPlace, IsLink, IsRowPart}
-use Rattle.redo_record.specs.declared.record.Record.{Record}
-use Rattle.redo_record.specs.declared.record.Record.TheVariants.{Reuse}
-use Rattle.redo_record.specs.declared.part.RowPart.{RowPart}
-use Rattle.redo_model.specs.Effects.{Step, Effect, Adds, effect_of}
-use Rattle.redo_model.specs.Ordinals.{txn_count, is_begin}
-use Rattle.redo_model.specs.Steps.{standing, standing_steps}
-use Rattle.redo_model.specs.Tables.{holds_row}
-use Rattle.redo_model.specs.Slots.{image}
-use Rattle.redo_model.specs.Undo.{Undone, part_size, parts_size, HeldPart, held_by, held_after, kept_by, undo_held, undo_used, undo_sequence, current_undo}
-use Rattle.redo_model.specs.Lawful.{AreAllowed}
-use Rattle.redo_laws.specs.Fit.{EachFits}
-use Rattle.redo_laws.specs.Fit.{EffectFits as BlocksFit}
+use Rattle.undo_block.specs.Types.{used_by, part_size as kept_size, IsPart, PlaceFits}
+use Rattle.redo_model.specs.Records.{IsUndo, IsPlace, IsLink, IsRowPart, Record, Reuse, RowPart}
+use Rattle.redo_model.specs.Model.{Step, Effect, effect_of, txn_count, is_begin, standing, standing_steps, holds_row, image, Undone, part_size, parts_size, HeldPart, held_by, held_after, kept_by, undo_held, undo_used, undo_sequence, current_undo, AreAllowed}
+use Rattle.redo_model.specs.Effects.{Adds}
+use Rattle.redo_laws.specs.Fit.{EachFits, EffectFits as BlocksFit}
 use Rattle.redo_laws.specs.Sound.{IsSound}
 use Rattle.redo_laws.proofs.allowed.Basics.{Basics, EffectBasics, basics}
 use Rattle.redo_laws.proofs.numbers.Bounds.{count_short, sequence_short, current_bound}

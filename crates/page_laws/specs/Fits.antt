@@ -1,20 +1,11 @@
 -- That an allowed record fits each row block that it names, in the words that a page's crate can use: its images one after
 -- the other, the last part first, and then its list entries.
 use Rattle.std.specs.Prelude.{◌≡◌, ℕ, true, eqb, List, [], ◌∷◌, Option, Some, None}
-use Rattle.seg_base.specs.declared.shape.Shape.{Shape}
-use Rattle.seg_base.specs.declared.slot.Writer.{Writer}
-use Rattle.seg_base.specs.declared.slot.Writer.TheVariants.{By, At}
-use Rattle.seg_base.specs.Blocks.{Block}
-use Rattle.row_block.specs.RowPage.{CanPut, CanEnter}
-use Rattle.redo_record.specs.declared.record.Record.{Record}
-use Rattle.redo_record.specs.declared.record.Record.TheVariants.{Back}
-use Rattle.redo_record.specs.declared.part.RowPart.{RowPart}
-use Rattle.redo_record.specs.declared.part.BackPart.{BackPart}
-use Rattle.redo_record.specs.declared.row.BackRecord.{BackRecord}
-use Rattle.redo_model.specs.Effects.{Step, Effect, Still, Formats, Adds, TakesBack, Cleans, effect_of, Placed, written, restored}
-use Rattle.redo_model.specs.Blocks.{place_all, enter_all, block_of}
-use Rattle.redo_model.specs.Segments.{is_formatted, IsRowBlock}
-use Rattle.redo_model.specs.Lawful.{AreAllowed}
+use Rattle.seg_words.specs.Types.{Shape, Writer, By, At, Block}
+use Rattle.row_block.specs.Types.{CanPut, CanEnter}
+use Rattle.redo_model.specs.Records.{Record, Back, RowPart, BackPart, BackRecord}
+use Rattle.redo_model.specs.Model.{Step, Effect, effect_of, Placed, written, restored, place_all, enter_all, block_of, is_formatted, IsRowBlock, AreAllowed}
+use Rattle.redo_model.specs.Effects.{Still, Formats, Adds, TakesBack, Cleans}
 use Rattle.redo_laws.specs.Among.{IsOneOf, is_in}
 
 abbrev pub blocks_of : List RowPart → List ℕ

@@ -1,19 +1,11 @@
 -- The parts of an allowed record can be put into its blocks one after the other, in any order: each slot and each list entry
 -- has its place, and the block fits its page at each moment.
 use Rattle.std.specs.Prelude.{◌≡◌, ℕ, List, ◌∷◌, Some}
-use Rattle.seg_base.specs.declared.shape.Shape.{Shape}
-use Rattle.seg_base.specs.declared.slot.Writer.{Writer}
-use Rattle.seg_base.specs.declared.slot.Writer.TheVariants.{By}
-use Rattle.seg_base.specs.Blocks.{Block}
-use Rattle.row_block.specs.RowPage.{CanPut, CanEnter}
-use Rattle.redo_record.specs.declared.record.Record.{Record}
-use Rattle.redo_record.specs.declared.record.Record.TheVariants.{Back}
-use Rattle.redo_record.specs.declared.part.RowPart.{RowPart}
-use Rattle.redo_record.specs.declared.part.BackPart.{BackPart}
-use Rattle.redo_record.specs.declared.row.BackRecord.{BackRecord}
-use Rattle.redo_model.specs.Effects.{Step, Adds, effect_of, written, restored}
-use Rattle.redo_model.specs.Blocks.{place_all, enter_by, block_of}
-use Rattle.redo_model.specs.Lawful.{AreAllowed}
+use Rattle.seg_words.specs.Types.{Shape, Writer, By, Block}
+use Rattle.row_block.specs.Types.{CanPut, CanEnter}
+use Rattle.redo_model.specs.Records.{Record, Back, RowPart, BackPart, BackRecord}
+use Rattle.redo_model.specs.Model.{Step, effect_of, written, restored, place_all, enter_by, block_of, AreAllowed}
+use Rattle.redo_model.specs.Effects.{Adds}
 use Rattle.redo_laws.specs.Among.{IsOneOf, AreSome}
 
 -- block b with the images of these parts in their slots, and the writer entered where those parts say

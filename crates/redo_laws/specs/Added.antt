@@ -1,21 +1,9 @@
 -- What one more record does to blocks, tables and images.
 use Rattle.std.specs.Prelude.{◌≡◌, ℕ, Bool, true, false, ◌||◌, eqb, List, [], ◌∷◌, map, Some}
-use Rattle.seg_base.specs.Blocks.{new_slot}
-use Rattle.seg_base.specs.Cleaning.{clean_slot}
-use Rattle.redo_record.specs.declared.record.Record.{Record}
-use Rattle.redo_record.specs.declared.record.Record.TheVariants.{FormatBlock, Move, Clean}
-use Rattle.redo_record.specs.declared.row.MoveRecord.{MoveRecord}
-use Rattle.redo_record.specs.declared.space.FormatBlockRecord.{FormatBlockRecord}
-use Rattle.redo_record.specs.declared.transaction.CleanRecord.{CleanRecord}
-use Rattle.redo_model.specs.Effects.{Step, Effect, Still, Formats, Adds, TakesBack, Cleans, effect_of, Placed, written, restored}
-use Rattle.redo_model.specs.Steps.{newest_of, standing}
-use Rattle.redo_model.specs.Tables.{table_at}
-use Rattle.redo_model.specs.Lawful.{AreAllowed}
-use Rattle.redo_record.specs.declared.part.RowPart.{RowPart}
-use Rattle.seg_base.specs.declared.shape.Shape.{Shape}
-use Rattle.redo_model.specs.Blocks.{block_of}
-use Rattle.redo_model.specs.Slots.{is_place, placed_in, image, slot_count, entry, entry_count}
-use Rattle.redo_model.specs.Versions.{Made, makers, images}
+use Rattle.seg_words.specs.Types.{new_slot, clean_slot, Shape}
+use Rattle.redo_model.specs.Records.{Record, FormatBlock, Move, Clean, MoveRecord, FormatBlockRecord, CleanRecord, RowPart}
+use Rattle.redo_model.specs.Model.{Step, Effect, effect_of, Placed, written, restored, newest_of, standing, table_at, AreAllowed, block_of, is_place, placed_in, image, slot_count, entry, entry_count, Made, makers, images}
+use Rattle.redo_model.specs.Effects.{Still, Formats, Adds, TakesBack, Cleans}
 
 abbrev pub any_in : List Placed → ℕ → Bool
 any_in [] b = false

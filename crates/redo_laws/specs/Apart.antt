@@ -1,11 +1,9 @@
 -- Extents and data blocks are apart: each extent of a table is a whole one of the store, stands in one table, and there
 -- once, and so does each data block. Oracle Database Concepts, "Extents": a segment's extents are its own.
 use Rattle.std.specs.Prelude.{◌≡◌, ℕ, ◌+◌, ◌≤◌, ◌<◌, true, List, [], ◌∷◌, length, map, Contains}
-use Rattle.seg_base.specs.declared.shape.Shape.{Shape}
-use Rattle.seg_base.specs.Places.{is_extent}
-use Rattle.redo_record.specs.declared.record.Record.{Record}
-use Rattle.redo_model.specs.Segments.{Extent, extents_of, has_extent, data_blocks, IsTable}
-use Rattle.redo_model.specs.Lawful.{AreAllowed}
+use Rattle.seg_words.specs.Types.{Shape, is_extent}
+use Rattle.redo_model.specs.Records.{Record}
+use Rattle.redo_model.specs.Model.{Extent, extents_of, has_extent, data_blocks, IsTable, AreAllowed}
 
 abbrev pub AreDistinct : List ℕ → Type 0
 AreDistinct [] = Unit {0}

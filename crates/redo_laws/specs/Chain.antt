@@ -2,18 +2,9 @@
 -- a record. So the first image that counts is reached by going down through undo, and what was reused on the way is the
 -- undo that was needed.
 use Rattle.std.specs.Prelude.{◌≡◌, ◌⊎◌, ℕ, suc, cond, Bool, List, [], ◌∷◌, Some, None}
-use Rattle.seg_base.specs.declared.shape.Shape.{Shape}
-use Rattle.seg_base.specs.declared.slot.Slot.{Slot}
-use Rattle.seg_base.specs.declared.slot.UndoAddr.{UndoAddr}
-use Rattle.seg_base.specs.declared.slot.Writer.{Writer}
-use Rattle.redo_record.specs.declared.record.Record.{Record}
-use Rattle.redo_record.specs.declared.part.RowPart.{RowPart}
-use Rattle.redo_model.specs.Effects.{Step, part_addr}
-use Rattle.redo_model.specs.Steps.{standing}
-use Rattle.redo_model.specs.Slots.{image}
-use Rattle.redo_model.specs.Versions.{Made, makers}
-use Rattle.redo_model.specs.Undo.{needed_on}
-use Rattle.redo_model.specs.Lawful.{AreAllowed}
+use Rattle.seg_words.specs.Types.{Shape, Slot, UndoAddr, Writer}
+use Rattle.redo_model.specs.Records.{Record, RowPart}
+use Rattle.redo_model.specs.Model.{Step, part_addr, standing, image, Made, makers, needed_on, AreAllowed}
 
 -- each image names the part with the one below, and the last names none
 abbrev pub IsChain : Slot → List Made → Type 0

@@ -1,14 +1,9 @@
 -- Undo is enough: addresses are distinct, what an active transaction needs to be taken back is never reused, and no block
 -- overflows.
 use Rattle.std.specs.Prelude.{◌≡◌, ℕ, ◌≤◌, true, false, List, [], ◌∷◌}
-use Rattle.seg_base.specs.declared.shape.Shape.{Shape}
-use Rattle.seg_base.specs.declared.slot.Writer.TheVariants.{By}
-use Rattle.redo_record.specs.declared.record.Record.{Record}
-use Rattle.redo_model.specs.Effects.{Step, part_addr}
-use Rattle.redo_model.specs.Transactions.{is_active}
-use Rattle.redo_model.specs.Steps.{is_addr, standing}
-use Rattle.redo_model.specs.Undo.{undo_used, is_reused}
-use Rattle.redo_model.specs.Lawful.{AreAllowed}
+use Rattle.seg_words.specs.Types.{Shape, By}
+use Rattle.redo_model.specs.Records.{Record}
+use Rattle.redo_model.specs.Model.{Step, part_addr, is_active, is_addr, standing, undo_used, is_reused, AreAllowed}
 
 -- a fact of each of the steps
 abbrev pub EachStep : (Step → Type 0) → List Step → Type 0

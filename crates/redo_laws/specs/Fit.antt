@@ -1,12 +1,9 @@
 -- What an allowed record states of slots and list entries can be put into its blocks.
 use Rattle.std.specs.Prelude.{◌≡◌, ℕ, ◌≤◌, ◌<◌, List, [], ◌∷◌, length, Some}
-use Rattle.seg_base.specs.declared.shape.Shape.{Shape}
-use Rattle.redo_record.specs.declared.record.Record.{Record}
-use Rattle.redo_record.specs.declared.part.RowPart.{RowPart}
-use Rattle.redo_record.specs.declared.part.BackPart.{BackPart}
-use Rattle.redo_model.specs.Effects.{Effect, Adds, TakesBack, effect_of}
-use Rattle.redo_model.specs.Slots.{image, slot_count, entry_count}
-use Rattle.redo_model.specs.Lawful.{AreAllowed}
+use Rattle.seg_words.specs.Types.{Shape}
+use Rattle.redo_model.specs.Records.{Record, RowPart, BackPart}
+use Rattle.redo_model.specs.Model.{Effect, effect_of, image, slot_count, entry_count, AreAllowed}
+use Rattle.redo_model.specs.Effects.{Adds, TakesBack}
 
 -- a part of a row record or a Move: its slot is there or is the next one, its list entry too, its image is small, and it
 -- states the image that stands there

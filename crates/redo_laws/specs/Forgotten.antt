@@ -1,9 +1,8 @@
 -- What is known of a transaction whose entry was taken by a later one.
 use Rattle.std.specs.Prelude.{◌≡◌, ◌⊎◌, ℕ, ◌≤◌, true, List, Some}
-use Rattle.seg_base.specs.declared.shape.Shape.{Shape}
-use Rattle.redo_record.specs.declared.record.Record.{Record}
-use Rattle.redo_model.specs.Transactions.{has_ended, commit_number, has_rolled_back, is_forgotten, control_number}
-use Rattle.redo_model.specs.Lawful.{AreAllowed}
+use Rattle.seg_words.specs.Types.{Shape}
+use Rattle.redo_model.specs.Records.{Record}
+use Rattle.redo_model.specs.Model.{has_ended, commit_number, has_rolled_back, is_forgotten, control_number, AreAllowed}
 
 -- it has ended, by a commit or a rollback, and its commit number is at most the control number
 pub record HasPassed (R : List Record) (t : ℕ) : Type 0 where

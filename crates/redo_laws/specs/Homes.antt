@@ -1,16 +1,9 @@
 -- Where slots are at home: what holds a row or leads to one stands in a block of the row's table, and what is vacant holds
 -- nothing. So lowering loses no row.
 use Rattle.std.specs.Prelude.{◌≡◌, ℕ, true, false, cond, eqb, List, [], ◌∷◌, Some, Contains}
-use Rattle.seg_base.specs.declared.shape.Shape.{Shape}
-use Rattle.seg_base.specs.Room.{is_empty}
-use Rattle.redo_record.specs.declared.record.Record.{Record}
-use Rattle.redo_record.specs.declared.record.Record.TheVariants.{Insert}
-use Rattle.seg_base.specs.declared.slot.Kind.{Kind}
-use Rattle.seg_base.specs.declared.slot.Kind.TheVariants.{Head, Body}
-use Rattle.redo_model.specs.Slots.{image}
-use Rattle.redo_model.specs.AllowedRows.{at_place}
-use Rattle.redo_model.specs.Segments.{IsRowBlock, IsVacant, IsFormatted, extent_data}
-use Rattle.redo_model.specs.Lawful.{AreAllowed}
+use Rattle.seg_words.specs.Types.{Shape, is_empty, Kind, Head, Body}
+use Rattle.redo_model.specs.Records.{Record, Insert}
+use Rattle.redo_model.specs.Model.{image, at_place, IsRowBlock, IsVacant, IsFormatted, extent_data, AreAllowed}
 
 abbrev pub table_given : Record → ℕ → ℕ → ℕ
 table_given (Insert w) n o = cond (eqb w.row n) w.obj o

@@ -1,10 +1,8 @@
 -- A row number, a transaction number, a commit number and a lowering are each given once, in order.
 use Rattle.std.specs.Prelude.{◌≡◌, ℕ, suc, ◌≤◌, ◌<◌, cond, eqb, List, [], ◌∷◌, Option, Some, None}
-use Rattle.seg_base.specs.declared.shape.Shape.{Shape}
-use Rattle.redo_record.specs.declared.record.Record.{Record}
-use Rattle.redo_record.specs.declared.record.Record.TheVariants.{Insert, Begin, Commit, Move, Lower}
-use Rattle.redo_model.specs.Ordinals.{commit_count, row_count, txn_count, lowering_count}
-use Rattle.redo_model.specs.Lawful.{AreAllowed}
+use Rattle.seg_words.specs.Types.{Shape}
+use Rattle.redo_model.specs.Records.{Record, Insert, Begin, Commit, Move, Lower}
+use Rattle.redo_model.specs.Model.{commit_count, row_count, txn_count, lowering_count, AreAllowed}
 
 -- the number that a record gives, of the kind asked for
 

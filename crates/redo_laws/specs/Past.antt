@@ -1,14 +1,9 @@
 -- Why rows are spread at all commits, and not at an earlier number for a transaction that changed rows since: a slot that
 -- the transaction took anew gives its own row, and no more the one that was deleted from it after that number.
 use Rattle.std.specs.Prelude.{◌≡◌, ℕ, ◌<◌, true, List, [], ◌∷◌, map, Some, None}
-use Rattle.seg_base.specs.declared.slot.Writer.TheVariants.{By}
-use Rattle.redo_record.specs.declared.record.Record.{Record}
-use Rattle.redo_record.specs.declared.record.Record.TheVariants.{Insert}
-use Rattle.redo_model.specs.Ordinals.{commit_count}
-use Rattle.redo_model.specs.Transactions.{is_active}
-use Rattle.redo_model.specs.Tables.{view}
-use Rattle.redo_model.specs.Versions.{rows_at}
-use Rattle.redo_model.specs.Lawful.{IsLawful}
+use Rattle.seg_words.specs.Types.{By}
+use Rattle.redo_model.specs.Records.{Record, Insert}
+use Rattle.redo_model.specs.Model.{commit_count, is_active, view, rows_at, IsLawful}
 use Rattle.redo_model.specs.Worked.{small, letters, hello, begin, change, part, row_by, empty_by, filled}
 
 -- row 2 was deleted by the third commit, and transaction 5 takes its slot for row 6

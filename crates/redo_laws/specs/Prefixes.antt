@@ -1,7 +1,7 @@
 -- What the first n records of a list are in longer lists.
 use Rattle.std.specs.Prelude.{◌≡◌, ℕ, ◌≤◌, List, ◌∷◌, length}
-use Rattle.redo_record.specs.declared.record.Record.{Record}
-use Rattle.redo_model.specs.Lists.{prefix, Extends}
+use Rattle.redo_model.specs.Records.{Record}
+use Rattle.redo_model.specs.Model.{prefix, Extends}
 
 pub record PrefixesOf (R : List Record) : Type 0 where
   pub all : (n : ℕ) → length R ≤ n → prefix R n ≡ R

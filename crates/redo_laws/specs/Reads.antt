@@ -2,19 +2,11 @@
 -- else the block holds, at the address's place, the part with the image below. So going down from a slot through undo blocks
 -- meets its images one by one, up to an address that is reused, and taking back finds what it needs.
 use Rattle.std.specs.Prelude.{◌≡◌, ℕ, suc, true, ltb, List, [], ◌∷◌, length, map, Some}
-use Rattle.seg_base.specs.declared.shape.Shape.{Shape}
-use Rattle.seg_base.specs.declared.slot.UndoAddr.{UndoAddr}
-use Rattle.redo_record.specs.declared.record.Record.{Record}
-use Rattle.redo_record.specs.declared.part.RowPart.{RowPart}
-use Rattle.redo_model.specs.Effects.{Step}
-use Rattle.redo_model.specs.Transactions.{is_active}
-use Rattle.redo_model.specs.Steps.{standing}
-use Rattle.redo_model.specs.Versions.{Made, makers}
-use Rattle.redo_model.specs.Undo.{part_size, undo_parts, undo_sequence, is_reused, HeldPart, undo_held, held_at}
-use Rattle.redo_model.specs.Lawful.{AreAllowed}
+use Rattle.seg_words.specs.Types.{Shape, UndoAddr, By}
+use Rattle.redo_model.specs.Records.{Record, RowPart}
+use Rattle.redo_model.specs.Model.{Step, is_active, standing, Made, makers, part_size, undo_parts, undo_sequence, is_reused, HeldPart, undo_held, held_at, AreAllowed}
 use Rattle.redo_laws.specs.Chain.{EachMade}
 use Rattle.redo_laws.specs.Economy.{EachStep}
-use Rattle.seg_base.specs.declared.slot.Writer.TheVariants.{By}
 
 -- the block of the address holds the image that a record replaced in slot k of block b, and knows who replaced it
 pub record LeadsTo (R : List Record) (b k : ℕ) (m : Made) : Type 0 where

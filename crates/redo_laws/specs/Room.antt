@@ -1,15 +1,9 @@
 -- In a lawful list what a block counts fits in the block, now and when any of its transactions end, so taking back always
 -- fits. The sizes are this engine's own.
-use Rattle.std.specs.Prelude.{◌≡◌, ℕ, ◌+◌, ◌-◌, ◌*◌, ◌≤◌, Bool, true, List, length}
-use Rattle.std.specs.List.{sum_by}
-use Rattle.seg_base.specs.declared.shape.Shape.{Shape}
-use Rattle.seg_base.specs.declared.slot.Slot.{Slot}
-use Rattle.seg_base.specs.Room.{used_of as used_by}
-use Rattle.redo_record.specs.declared.record.Record.{Record}
-use Rattle.redo_model.specs.Transactions.{ended_in}
-use Rattle.redo_model.specs.Slots.{image, slot_count, entry_count}
-use Rattle.redo_model.specs.Blocks.{block_of, slots_of, entries_of, used_of}
-use Rattle.redo_model.specs.Lawful.{AreAllowed}
+use Rattle.std.specs.Prelude.{◌≡◌, ℕ, ◌+◌, ◌-◌, ◌*◌, ◌≤◌, Bool, true, List, length, sum_by}
+use Rattle.seg_words.specs.Types.{Shape, Slot, used_of as used_by}
+use Rattle.redo_model.specs.Records.{Record}
+use Rattle.redo_model.specs.Model.{ended_in, image, slot_count, entry_count, block_of, slots_of, entries_of, used_of, AreAllowed}
 
 -- what the page of a block holds behind its header: slots, rows, list entries past the second
 abbrev pub page_size : List Record → ℕ → ℕ

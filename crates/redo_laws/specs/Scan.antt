@@ -1,13 +1,9 @@
 -- What a scan finds that begins after some records and reads each block after more of them: each row of its view, once.
 -- Oracle Database Concepts, "Multiversion Read Consistency"; the order of blocks is this engine's own.
 use Rattle.std.specs.Prelude.{◌≡◌, ℕ, ◌<◌, cond, eqb, List, [], ◌∷◌, ◌++◌, filter, option_to_list}
-use Rattle.seg_base.specs.declared.shape.Shape.{Shape}
-use Rattle.redo_record.specs.declared.record.Record.{Record}
-use Rattle.redo_model.specs.Ordinals.{commit_count}
-use Rattle.redo_model.specs.Tables.{view, view_rows}
-use Rattle.redo_model.specs.Versions.{rows_at}
-use Rattle.redo_model.specs.Segments.{IsTable, IsRowBlock, is_formatted, under_high}
-use Rattle.redo_model.specs.Lawful.{AreAllowed}
+use Rattle.seg_words.specs.Types.{Shape}
+use Rattle.redo_model.specs.Records.{Record}
+use Rattle.redo_model.specs.Model.{commit_count, view, view_rows, rows_at, IsTable, IsRowBlock, is_formatted, under_high, AreAllowed}
 use Rattle.redo_laws.specs.Stays.{Later, IsQuiet}
 use Rattle.redo_laws.specs.Views.{IsOpen}
 

@@ -1,8 +1,7 @@
 -- No number of a list is greater than its length: so a list shorter than 2 to the 64th has numbers of 64 bits alone.
 use Rattle.std.specs.Prelude.{ℕ, ◌≤◌, List, length}
-use Rattle.redo_record.specs.declared.record.Record.{Record}
-use Rattle.redo_model.specs.Ordinals.{commit_count, row_count, txn_count, lowering_count}
-use Rattle.redo_model.specs.Undo.{undo_sequence}
+use Rattle.redo_model.specs.Records.{Record}
+use Rattle.redo_model.specs.Model.{commit_count, row_count, txn_count, lowering_count, undo_sequence}
 
 pub record ShortOf (R : List Record) : Type 0 where
   pub commits : commit_count R ≤ length R

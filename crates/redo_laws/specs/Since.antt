@@ -1,6 +1,6 @@
 -- Whether some record after the first n of a list is of a kind.
 use Rattle.std.specs.Prelude.{ℕ, Bool, false, cond, ◌||◌, ltb, List, [], ◌∷◌, length}
-use Rattle.redo_record.specs.declared.record.Record.{Record}
+use Rattle.redo_model.specs.Records.{Record}
 
 abbrev pub any_since : (Record → Bool) → ℕ → List Record → Bool
 any_since p n [] = false

@@ -1,15 +1,9 @@
 -- What stands in the slots and list entries of a block can be put on its page: numbers are in range, an Empty slot and a
 -- head have no row, the room is at least the row's length, and just that where a commit number is the writer.
 use Rattle.std.specs.Prelude.{◌≡◌, ℕ, suc, ◌≤◌, ◌<◌, ◌^◌, true, false, List, [], length}
-use Rattle.seg_base.specs.declared.shape.Shape.{Shape}
-use Rattle.seg_base.specs.declared.slot.Slot.{Slot}
-use Rattle.seg_base.specs.declared.slot.Writer.TheVariants.{At}
-use Rattle.seg_base.specs.Places.{is_shape}
-use Rattle.redo_record.specs.declared.record.Record.{Record}
-use Rattle.redo_record.specs.Spelled.{IsImage}
-use Rattle.redo_model.specs.Slots.{image, entry}
-use Rattle.redo_model.specs.Tables.{holds_row}
-use Rattle.redo_model.specs.Lawful.{AreAllowed}
+use Rattle.seg_words.specs.Types.{Shape, Slot, At, is_shape}
+use Rattle.redo_model.specs.Records.{Record, IsImage}
+use Rattle.redo_model.specs.Model.{image, entry, holds_row, AreAllowed}
 
 pub record IsSound (i : Slot) : Type 0 where
   pub image : IsImage i

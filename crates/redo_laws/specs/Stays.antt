@@ -1,15 +1,10 @@
 -- What a block gives at a commit number for a transaction, and what the transaction sees, stays in longer lists, whatever
 -- others move, take back, clean, reuse or lower.
 use Rattle.std.specs.Prelude.{◌≡◌, ◌≢◌, ℕ, ◌≤◌, List, ◌∷◌}
-use Rattle.seg_base.specs.declared.shape.Shape.{Shape}
-use Rattle.seg_base.specs.declared.slot.Writer.{Writer}
-use Rattle.seg_base.specs.declared.slot.Writer.TheVariants.{By, At}
-use Rattle.redo_record.specs.declared.record.Record.{Record}
-use Rattle.redo_model.specs.Effects.{Effect, Formats, Adds, TakesBack, effect_of}
-use Rattle.redo_model.specs.Ordinals.{commit_count}
-use Rattle.redo_model.specs.Tables.{view}
-use Rattle.redo_model.specs.Versions.{row_at}
-use Rattle.redo_model.specs.Lawful.{AreAllowed}
+use Rattle.seg_words.specs.Types.{Shape, Writer, By, At}
+use Rattle.redo_model.specs.Records.{Record}
+use Rattle.redo_model.specs.Model.{Effect, effect_of, commit_count, view, row_at, AreAllowed}
+use Rattle.redo_model.specs.Effects.{Formats, Adds, TakesBack}
 
 abbrev pub IsNotBy : Writer → ℕ → Type 0
 IsNotBy (By u) t = u ≢ t

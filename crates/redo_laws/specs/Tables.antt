@@ -1,12 +1,9 @@
 -- Laws on tables and marks: the low-mark rule, the view without a transaction, that records name tables that are there,
 -- and that the first records of a lawful list are lawful.
 use Rattle.std.specs.Prelude.{◌≡◌, ℕ, ◌≤◌, true, List, ◌∷◌, take, Option, Some, None}
-use Rattle.seg_base.specs.declared.shape.Shape.{Shape}
-use Rattle.redo_record.specs.declared.record.Record.{Record}
-use Rattle.redo_record.specs.declared.record.Record.TheVariants.{Movement, Extend, FormatBlock, Class, Advance, Lower, Insert, Update, Migrate, Return, Delete, Back, Move}
-use Rattle.redo_model.specs.Lists.{prefix}
-use Rattle.redo_model.specs.Segments.{IsTable, data_blocks, low_mark, first_unformatted}
-use Rattle.redo_model.specs.Lawful.{AreAllowed, IsLawful, is_whole}
+use Rattle.seg_words.specs.Types.{Shape}
+use Rattle.redo_model.specs.Records.{Record, Movement, Extend, FormatBlock, Class, Advance, Lower, Insert, Update, Migrate, Return, Delete, Back, Move}
+use Rattle.redo_model.specs.Model.{prefix, IsTable, data_blocks, low_mark, first_unformatted, AreAllowed, IsLawful, is_whole}
 
 -- each block of a table at a position below its low mark is formatted
 abbrev pub LowMarkRule : Type 0

@@ -1,16 +1,9 @@
 -- Rows at a commit number are spread over blocks without loss. Oracle Database Concepts, "Multiversion Read Consistency": a
 -- scan sees each row that was committed when it began, once. That the rows are met block by block is this engine's own.
 use Rattle.std.specs.Prelude.{◌≡◌, ◌⊎◌, ℕ, ◌≤◌, ◌<◌, true, List, Some, None}
-use Rattle.seg_base.specs.declared.shape.Shape.{Shape}
-use Rattle.seg_base.specs.declared.slot.Kind.TheVariants.{Head}
-use Rattle.redo_record.specs.declared.record.Record.{Record}
-use Rattle.redo_model.specs.Ordinals.{commit_count}
-use Rattle.redo_model.specs.Transactions.{is_active}
-use Rattle.redo_model.specs.Tables.{table_at, view}
-use Rattle.redo_model.specs.Slots.{slot_count}
-use Rattle.redo_model.specs.Versions.{image_at, row_at}
-use Rattle.redo_model.specs.Segments.{IsTable, IsRowBlock}
-use Rattle.redo_model.specs.Lawful.{AreAllowed}
+use Rattle.seg_words.specs.Types.{Shape, Head}
+use Rattle.redo_model.specs.Records.{Record}
+use Rattle.redo_model.specs.Model.{commit_count, is_active, table_at, view, slot_count, image_at, row_at, IsTable, IsRowBlock, AreAllowed}
 
 -- an active transaction, or none
 abbrev pub IsOpen : List Record → ℕ → Type 0

@@ -3,14 +3,9 @@
 -- committed, since what it made is gone where it was rolled back; and of a forgotten one it is known from the control number
 -- on that it counts.
 use Rattle.std.specs.Prelude.{◌≡◌, ℕ, ◌≤◌, true, false, eqb, leb, List, [], ◌∷◌, Some}
-use Rattle.seg_base.specs.declared.shape.Shape.{Shape}
-use Rattle.seg_base.specs.declared.slot.Slot.{Slot}
-use Rattle.seg_base.specs.declared.slot.Writer.TheVariants.{By, At}
-use Rattle.redo_record.specs.declared.record.Record.{Record}
-use Rattle.redo_model.specs.Transactions.{is_active, commit_number, has_rolled_back, control_number, is_forgotten}
-use Rattle.redo_model.specs.Slots.{image}
-use Rattle.redo_model.specs.Versions.{Made, makers, counts}
-use Rattle.redo_model.specs.Lawful.{AreAllowed}
+use Rattle.seg_words.specs.Types.{Shape, Slot, By, At}
+use Rattle.redo_model.specs.Records.{Record}
+use Rattle.redo_model.specs.Model.{is_active, commit_number, has_rolled_back, control_number, is_forgotten, image, Made, makers, counts, AreAllowed}
 use Rattle.redo_laws.specs.Chain.{EachMade}
 use Rattle.redo_laws.specs.Views.{IsOpen}
 

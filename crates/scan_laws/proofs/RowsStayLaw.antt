@@ -1,9 +1,8 @@
 -- What a whole block gives stays.
 use Rattle.std.proofs.Common.{◌≡◌, ℕ, zero, suc, ◌≤◌, ◌<◌, List, [], ◌∷◌, ◌++◌, Option, Some, None, refl, sym, ◌∙◌, ap, ap₂, arith, inl, inr}
-use Rattle.std.proofs.lemmas.Bool.{cases_order}
-use Rattle.redo_record.specs.declared.record.Record.{Record}
-use Rattle.redo_model.specs.Slots.{slot_count}
-use Rattle.redo_model.specs.Versions.{found_below, row_at}
+use Rattle.seg_words.proofs.Lemmas.{cases_order}
+use Rattle.redo_model.specs.Records.{Record}
+use Rattle.redo_model.specs.Model.{slot_count, found_below, row_at}
 use Rattle.redo_laws.proofs.spread.SpreadLaw.{slot_there}
 use Rattle.redo_laws.proofs.spread.StaysLaw.{blocks_stay}
 use Rattle.scan_laws.specs.RowsStay.{RowsOfBlocksStay}

@@ -1,16 +1,11 @@
 -- Row blocks stay until they are released.
-use Rattle.std.proofs.Common.{◌≡◌, ◌≢◌, ◌⊎◌, ℕ, suc, ◌+◌, ◌≤◌, Bool, true, false, cond, not, ◌&&◌, eqb, List, [], ◌∷◌, length, take, drop, refl, sym, ◌∙◌, ap, subst, arith, inl, inr, le_trans}
-use Rattle.std.proofs.lemmas.Bool.{eqb-true, eq-eqb, true≢false, leb-true, ltb-true, lt-ltb, le-leb, and_from, and_parts, and_right, or_left, or_right, or_cases}
-use Rattle.seg_base.specs.declared.shape.Shape.{Shape}
-use Rattle.seg_base.specs.Places.{first_block}
-use Rattle.redo_record.specs.declared.record.Record.{Record}
-use Rattle.redo_record.specs.declared.record.Record.TheVariants.{Extend, FormatBlock, Lower}
-use Rattle.redo_record.specs.declared.space.LowerRecord.{LowerRecord}
-use Rattle.redo_model.specs.Lists.{Extends, same, more}
-use Rattle.redo_model.specs.Effects.{Effect, Formats, effect_of}
-use Rattle.redo_model.specs.Segments.{Extent, extents_of, data_of, has_extent, in_extent, data_blocks, high_mark, under_high, is_formatted, IsTable}
-use Rattle.redo_model.specs.AllowedTables.{LowerAllowed}
-use Rattle.redo_model.specs.Lawful.{IsKindAllowed, AreAllowed}
+use Rattle.std.proofs.Common.{◌≡◌, ◌≢◌, ◌⊎◌, ℕ, suc, ◌+◌, ◌≤◌, Bool, true, false, cond, not, ◌&&◌, eqb, List, [], ◌∷◌, length, take, drop, refl, sym, ◌∙◌, ap, subst, arith, inl, inr, le_trans, eqb-true, eq-eqb, true≢false, leb-true, ltb-true, lt-ltb, le-leb}
+use Rattle.seg_words.proofs.Lemmas.{and_from, and_parts, and_right, or_left, or_right, or_cases}
+use Rattle.seg_words.specs.Types.{Shape, first_block}
+use Rattle.redo_model.specs.Records.{Record, Extend, FormatBlock, Lower, LowerRecord}
+use Rattle.redo_model.specs.Model.{Extends, Effect, effect_of, Extent, extents_of, data_of, has_extent, in_extent, data_blocks, high_mark, under_high, is_formatted, IsTable, LowerAllowed, IsKindAllowed, AreAllowed}
+use Rattle.redo_model.specs.Lists.{same, more}
+use Rattle.redo_model.specs.Effects.{Formats}
 use Rattle.redo_laws.specs.Among.{is_in}
 use Rattle.redo_laws.specs.Stays.{Later, not_later, one_later, IsNotOf, IsQuiet}
 use Rattle.redo_laws.proofs.lists.Bools.{clash, off, both_off}

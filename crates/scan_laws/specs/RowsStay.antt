@@ -1,10 +1,8 @@
 -- What a whole block gives at a commit number for a transaction stays, as what each of its slots gives does.
 use Rattle.std.specs.Prelude.{◌≡◌, ℕ, ◌≤◌, List}
-use Rattle.seg_base.specs.declared.shape.Shape.{Shape}
-use Rattle.redo_record.specs.declared.record.Record.{Record}
-use Rattle.redo_model.specs.Ordinals.{commit_count}
-use Rattle.redo_model.specs.Versions.{rows_at}
-use Rattle.redo_model.specs.Lawful.{AreAllowed}
+use Rattle.seg_words.specs.Types.{Shape}
+use Rattle.redo_model.specs.Records.{Record}
+use Rattle.redo_model.specs.Model.{commit_count, rows_at, AreAllowed}
 use Rattle.redo_laws.specs.Stays.{Later, IsQuiet}
 
 abbrev pub RowsOfBlocksStay : Type 0

@@ -3,13 +3,10 @@
 -- that it has yet to read was released may go on, and another one is right to stop. Oracle Database Administrator's Guide,
 -- "Shrinking Database Segments Online"; that a scan stops there is this engine's own.
 use Rattle.std.specs.Prelude.{◌≡◌, ◌≢◌, ℕ, ◌≤◌, Bool, true, false, ◌&&◌, ◌||◌, eqb, List, [], ◌∷◌, length, Some, Contains}
-use Rattle.seg_base.specs.declared.shape.Shape.{Shape}
-use Rattle.redo_record.specs.declared.record.Record.{Record}
-use Rattle.redo_record.specs.declared.record.Record.TheVariants.{Lower}
-use Rattle.redo_model.specs.Lists.{Extends}
-use Rattle.redo_model.specs.Effects.{Formats, effect_of}
-use Rattle.redo_model.specs.Segments.{Extent, extents_of, extent_at, in_extent, data_blocks, IsTable, IsRowBlock}
-use Rattle.redo_model.specs.Lawful.{AreAllowed}
+use Rattle.seg_words.specs.Types.{Shape}
+use Rattle.redo_model.specs.Records.{Record, Lower}
+use Rattle.redo_model.specs.Model.{Extends, effect_of, Extent, extents_of, extent_at, in_extent, data_blocks, IsTable, IsRowBlock, AreAllowed}
+use Rattle.redo_model.specs.Effects.{Formats}
 use Rattle.redo_laws.specs.Scan.{IsReadAfter}
 use Rattle.redo_laws.specs.Since.{any_since}
 use Rattle.redo_laws.specs.Stays.{Later, IsNotOf, IsQuiet}

@@ -1,12 +1,9 @@
 -- The active transaction of a session, as a list grows.
-use Rattle.std.proofs.Common.{◌≡◌, ℕ, suc, ◌≤◌, true, false, cond, not, ◌&&◌, ◌||◌, eqb, List, [], ◌∷◌, Option, Some, None, refl, sym, ◌∙◌, ap, arith, inl, inr}
-use Rattle.std.proofs.lemmas.Bool.{eqb-true, cond-true, eq-eqb, or_right, or_cases, true≢false, cases_Bool, ne_eqb, and_parts}
-use Rattle.seg_base.specs.declared.shape.Shape.{Shape}
-use Rattle.redo_record.specs.declared.record.Record.{Record}
-use Rattle.redo_record.specs.declared.record.Record.TheVariants.{Begin, Commit, Ended}
-use Rattle.redo_model.specs.Ordinals.{txn_count}
-use Rattle.redo_model.specs.Transactions.{is_active, last_of_session, is_open, has_open}
-use Rattle.redo_model.specs.Lawful.{IsKindAllowed, AreAllowed}
+use Rattle.std.proofs.Common.{◌≡◌, ℕ, suc, ◌≤◌, true, false, cond, not, ◌&&◌, ◌||◌, eqb, List, [], ◌∷◌, Option, Some, None, refl, sym, ◌∙◌, ap, arith, inl, inr, eqb-true, eq-eqb, true≢false, ne_eqb}
+use Rattle.seg_words.proofs.Lemmas.{cond-true, or_right, or_cases, cases_Bool, and_parts}
+use Rattle.seg_words.specs.Types.{Shape}
+use Rattle.redo_model.specs.Records.{Record, Begin, Commit, Ended}
+use Rattle.redo_model.specs.Model.{txn_count, is_active, last_of_session, is_open, has_open, IsKindAllowed, AreAllowed}
 use Rattle.session_laws.specs.Sessions.{without_txn, own_of}
 use Rattle.session_laws.specs.Owners.{SessionOf}
 

@@ -1,14 +1,9 @@
 -- Whose transactions and records are, and what a record of another session leaves.
-use Rattle.std.proofs.Common.{◌≡◌, ◌≢◌, ℕ, suc, ◌≤◌, true, false, cond, ◌||◌, List, ◌∷◌, Option, Some, None, refl, sym, ◌∙◌, ap, arith, inl, inr}
-use Rattle.std.proofs.lemmas.Bool.{cond-false, ne_eqb}
-use Rattle.seg_base.specs.declared.shape.Shape.{Shape}
-use Rattle.redo_record.specs.declared.record.Record.{Record}
-use Rattle.redo_record.specs.declared.record.Record.TheVariants.{Begin, Insert, Update, Migrate, Return, Delete, Commit, Back, Ended}
-use Rattle.redo_model.specs.Effects.{effect_of}
-use Rattle.redo_model.specs.Ordinals.{txn_count}
-use Rattle.redo_model.specs.Steps.{is_backed}
-use Rattle.redo_model.specs.Transactions.{is_active, is_open, has_open}
-use Rattle.redo_model.specs.Lawful.{AreAllowed}
+use Rattle.std.proofs.Common.{◌≡◌, ◌≢◌, ℕ, suc, ◌≤◌, true, false, cond, ◌||◌, List, ◌∷◌, Option, Some, None, refl, sym, ◌∙◌, ap, arith, inl, inr, ne_eqb}
+use Rattle.seg_words.proofs.Lemmas.{cond-false}
+use Rattle.seg_words.specs.Types.{Shape}
+use Rattle.redo_model.specs.Records.{Record, Begin, Insert, Update, Migrate, Return, Delete, Commit, Back, Ended}
+use Rattle.redo_model.specs.Model.{effect_of, txn_count, is_backed, is_active, is_open, has_open, AreAllowed}
 use Rattle.redo_laws.specs.Stays.{IsNotOf}
 use Rattle.redo_laws.specs.Views.{IsOpen}
 use Rattle.redo_laws.proofs.spread.Whole.{record_fits}

@@ -1,12 +1,9 @@
 -- What is true of the sessions' transactions in every list of allowed records, and what a record of one session leaves of
 -- another.
 use Rattle.std.specs.Prelude.{◌≡◌, ◌≢◌, ℕ, ◌≤◌, Bool, true, false, List, ◌∷◌, Option, Some, None}
-use Rattle.seg_base.specs.declared.shape.Shape.{Shape}
-use Rattle.redo_record.specs.declared.record.Record.{Record}
-use Rattle.redo_model.specs.Effects.{effect_of}
-use Rattle.redo_model.specs.Ordinals.{txn_count}
-use Rattle.redo_model.specs.Transactions.{is_active, last_of_session, has_open}
-use Rattle.redo_model.specs.Lawful.{AreAllowed}
+use Rattle.seg_words.specs.Types.{Shape}
+use Rattle.redo_model.specs.Records.{Record}
+use Rattle.redo_model.specs.Model.{effect_of, txn_count, is_active, last_of_session, has_open, AreAllowed}
 use Rattle.redo_laws.specs.Stays.{IsNotOf}
 use Rattle.redo_laws.specs.Views.{IsOpen}
 use Rattle.session_laws.specs.Sessions.{own_of, own_number, own_backed, own_rows, own_begins, IsOf}

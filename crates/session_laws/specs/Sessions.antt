@@ -2,12 +2,10 @@
 -- statements belong to its current one); a record of a transaction is of the session that began it. This engine's own:
 -- sessions are numbered from 1 to 64.
 use Rattle.std.specs.Prelude.{◌≡◌, ℕ, suc, Bool, false, cond, eqb, List, [], ◌∷◌, Option, Some, None}
-use Rattle.seg_base.specs.declared.slot.Writer.{Writer}
-use Rattle.seg_base.specs.declared.slot.Writer.TheVariants.{By, At}
-use Rattle.redo_record.specs.declared.record.Record.{Record}
-use Rattle.redo_record.specs.declared.record.Record.TheVariants.{Begin, Insert, Update, Migrate, Return, Delete, Commit, Back, Ended}
-use Rattle.redo_model.specs.Effects.{TxnEffect, Keeps, Begins, Commits, Ends, txn_effect, Effect, Adds, effect_of}
-use Rattle.redo_model.specs.Steps.{is_backed}
+use Rattle.seg_words.specs.Types.{Writer, By, At}
+use Rattle.redo_model.specs.Records.{Record, Begin, Insert, Update, Migrate, Return, Delete, Commit, Back, Ended}
+use Rattle.redo_model.specs.Model.{TxnEffect, txn_effect, Effect, effect_of, is_backed}
+use Rattle.redo_model.specs.Effects.{Keeps, Begins, Commits, Ends, Adds}
 
 abbrev pub without_txn : ℕ → Option ℕ → Option ℕ
 without_txn u None = None

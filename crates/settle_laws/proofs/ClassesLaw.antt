@@ -1,24 +1,9 @@
 -- What a block counts stays.
-use Rattle.std.proofs.Common.{◌≡◌, ℕ, zero, suc, ◌+◌, ◌-◌, ◌*◌, ◌≤◌, Bool, false, cond, not, ◌&&◌, ◌||◌, eqb, List, [], ◌∷◌, length, get_or, refl, sym, ◌∙◌, ap, arith}
-use Rattle.std.proofs.lemmas.Bool.{or_parts, ne_eqb, eq-eqb}
-use Rattle.seg_base.specs.declared.shape.Shape.{Shape}
-use Rattle.seg_base.specs.declared.slot.Slot.{Slot}
-use Rattle.seg_base.specs.declared.slot.Writer.{Writer}
-use Rattle.seg_base.specs.declared.slot.Writer.TheVariants.{By, At}
-use Rattle.seg_base.specs.Blocks.{new_slot}
-use Rattle.seg_base.specs.Classes.{class_of}
-use Rattle.seg_base.specs.Room.{writer_has_ended, used_of as used_by}
-use Rattle.redo_record.specs.declared.record.Record.{Record}
-use Rattle.redo_record.specs.declared.record.Record.TheVariants.{Begin, Commit, Ended}
-use Rattle.redo_model.specs.Effects.{txn_effect}
-use Rattle.redo_model.specs.Ordinals.{txn_count}
-use Rattle.redo_model.specs.Transactions.{is_active, ended_in}
-use Rattle.redo_model.specs.Steps.{is_by, standing}
-use Rattle.redo_model.specs.AllowedTransactions.{slots_name}
-use Rattle.redo_model.specs.Blocks.{slots_of, block_of}
-use Rattle.redo_model.specs.Slots.{image, slot_count, entry_count}
-use Rattle.redo_model.specs.Versions.{Made, makers}
-use Rattle.redo_model.specs.Lawful.{AreAllowed}
+use Rattle.std.proofs.Common.{◌≡◌, ℕ, zero, suc, ◌+◌, ◌-◌, ◌*◌, ◌≤◌, Bool, false, cond, not, ◌&&◌, ◌||◌, eqb, List, [], ◌∷◌, length, get_or, refl, sym, ◌∙◌, ap, arith, ne_eqb, eq-eqb}
+use Rattle.seg_words.proofs.Lemmas.{or_parts}
+use Rattle.seg_words.specs.Types.{Shape, Slot, Writer, By, At, new_slot, class_of, writer_has_ended, used_of as used_by}
+use Rattle.redo_model.specs.Records.{Record, Begin, Commit, Ended}
+use Rattle.redo_model.specs.Model.{txn_effect, txn_count, is_active, ended_in, is_by, standing, slots_name, slots_of, block_of, image, slot_count, entry_count, Made, makers, AreAllowed}
 use Rattle.redo_model.proofs.Bridge.{image_is}
 use Rattle.redo_laws.proofs.steps.Adding.{others_are_left}
 use Rattle.redo_laws.proofs.lists.Bools.{clash}

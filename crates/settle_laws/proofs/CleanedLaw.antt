@@ -1,25 +1,9 @@
 -- What a Clean settles.
-use Rattle.std.proofs.Common.{◌≡◌, ℕ, zero, suc, ◌+◌, ◌-◌, ◌*◌, ◌≤◌, ◌<◌, Bool, true, false, cond, not, ◌&&◌, eqb, leb, List, [], ◌∷◌, length, get_or, Option, Some, None, refl, sym, ◌∙◌, ap, arith, inl, inr}
-use Rattle.std.proofs.lemmas.Bool.{cond-true, cond-false, true≢false, cases_Bool, eq-eqb, or_left, or_right, and_from, leb-true, leb-false}
-use Rattle.seg_base.specs.declared.shape.Shape.{Shape}
-use Rattle.seg_base.specs.declared.slot.Slot.{Slot}
-use Rattle.seg_base.specs.declared.slot.ListEntry.{ListEntry}
-use Rattle.seg_base.specs.declared.slot.Writer.{Writer}
-use Rattle.seg_base.specs.declared.slot.Writer.TheVariants.{By, At}
-use Rattle.seg_base.specs.Blocks.{new_slot, new_entry}
-use Rattle.seg_base.specs.Classes.{class_of}
-use Rattle.seg_base.specs.Cleaning.{number_of, number_of_writer, as_told, clean_slot, entry_as_told, clean_entry}
-use Rattle.seg_base.specs.Room.{row_size, writer_has_ended, used_of as used_by}
-use Rattle.redo_record.specs.declared.record.Record.{Record}
-use Rattle.redo_record.specs.declared.record.Record.TheVariants.{Clean, Commit}
-use Rattle.redo_record.specs.declared.transaction.CleanRecord.{CleanRecord}
-use Rattle.redo_model.specs.Ordinals.{commit_count}
-use Rattle.redo_model.specs.Steps.{is_by}
-use Rattle.redo_model.specs.Transactions.{is_active, ended_in, has_begun, has_ended, commit_number, is_forgotten}
-use Rattle.redo_model.specs.AllowedTransactions.{slots_name, entries_name, number_or_zero, stated_number, CleanAllowed}
-use Rattle.redo_model.specs.Blocks.{slots_of, entries_of, block_of}
-use Rattle.redo_model.specs.Slots.{image, slot_count, entry, entry_count}
-use Rattle.redo_model.specs.Lawful.{AreAllowed}
+use Rattle.std.proofs.Common.{◌≡◌, ℕ, zero, suc, ◌+◌, ◌-◌, ◌*◌, ◌≤◌, ◌<◌, Bool, true, false, cond, not, ◌&&◌, eqb, leb, List, [], ◌∷◌, length, get_or, Option, Some, None, refl, sym, ◌∙◌, ap, arith, inl, inr, true≢false, eq-eqb, leb-true, leb-false}
+use Rattle.seg_words.proofs.Lemmas.{cond-true, cond-false, cases_Bool, or_left, or_right, and_from}
+use Rattle.seg_words.specs.Types.{Shape, Slot, ListEntry, Writer, By, At, new_slot, new_entry, class_of, number_of, number_of_writer, as_told, clean_slot, entry_as_told, clean_entry, row_size, writer_has_ended, used_of as used_by}
+use Rattle.redo_model.specs.Records.{Record, Clean, Commit, CleanRecord}
+use Rattle.redo_model.specs.Model.{commit_count, is_by, is_active, ended_in, has_begun, has_ended, commit_number, is_forgotten, slots_name, entries_name, number_or_zero, stated_number, CleanAllowed, slots_of, entries_of, block_of, image, slot_count, entry, entry_count, AreAllowed}
 use Rattle.redo_model.proofs.Bridge.{image_is, count_is, entry_is}
 use Rattle.redo_laws.proofs.steps.Beyond.{beyond}
 use Rattle.redo_laws.proofs.room.RoomLaw.{used_is, size_at, size_ended}

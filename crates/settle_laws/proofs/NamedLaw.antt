@@ -1,26 +1,10 @@
 -- Whom a block names has written in it.
-use Rattle.std.proofs.Common.{◌≡◌, ◌⊎◌, ℕ, suc, ◌≤◌, Bool, true, false, cond, not, ◌&&◌, eqb, List, [], ◌∷◌, get_or, Option, Some, None, refl, sym, ◌∙◌, ap, arith, inl, inr}
-use Rattle.std.proofs.lemmas.Bool.{cond-true, cond-false, true≢false, cases_Bool, eq-eqb, eqb-true, or_left, or_right, or_cases, and_from, and_parts}
-use Rattle.seg_base.specs.declared.shape.Shape.{Shape}
-use Rattle.seg_base.specs.declared.slot.Slot.{Slot}
-use Rattle.seg_base.specs.declared.slot.ListEntry.{ListEntry}
-use Rattle.seg_base.specs.declared.slot.UndoAddr.{UndoAddr}
-use Rattle.seg_base.specs.declared.slot.Writer.{Writer}
-use Rattle.seg_base.specs.declared.slot.Writer.TheVariants.{By, At}
-use Rattle.seg_base.specs.Blocks.{new_slot, new_entry}
-use Rattle.seg_base.specs.Cleaning.{number_of, entry_as_told, clean_entry}
-use Rattle.redo_record.specs.declared.record.Record.{Record}
-use Rattle.redo_record.specs.declared.record.Record.TheVariants.{Begin}
-use Rattle.redo_record.specs.declared.part.RowPart.{RowPart}
-use Rattle.redo_model.specs.Effects.{Step, Effect, Still, Formats, Adds, TakesBack, Cleans, effect_of, written, part_addr}
-use Rattle.redo_model.specs.Ordinals.{txn_count}
-use Rattle.redo_model.specs.Steps.{is_addr, is_by, standing}
-use Rattle.redo_model.specs.Transactions.{is_active, has_begun}
-use Rattle.redo_model.specs.AllowedTransactions.{slots_name, entries_name}
-use Rattle.redo_model.specs.Blocks.{slots_of, entries_of}
-use Rattle.redo_model.specs.Slots.{is_place, is_at, image, entered_in, entered_by, changed_entry, entry}
-use Rattle.redo_model.specs.Versions.{Made, made_by, without, changed_makers, makers}
-use Rattle.redo_model.specs.Lawful.{AreAllowed}
+use Rattle.std.proofs.Common.{◌≡◌, ◌⊎◌, ℕ, suc, ◌≤◌, Bool, true, false, cond, not, ◌&&◌, eqb, List, [], ◌∷◌, get_or, Option, Some, None, refl, sym, ◌∙◌, ap, arith, inl, inr, true≢false, eq-eqb, eqb-true}
+use Rattle.seg_words.proofs.Lemmas.{cond-true, cond-false, cases_Bool, or_left, or_right, or_cases, and_from, and_parts}
+use Rattle.seg_words.specs.Types.{Shape, Slot, ListEntry, UndoAddr, Writer, By, At, new_slot, new_entry, number_of, entry_as_told, clean_entry}
+use Rattle.redo_model.specs.Records.{Record, Begin, RowPart}
+use Rattle.redo_model.specs.Model.{Step, Effect, effect_of, written, part_addr, txn_count, is_addr, is_by, standing, is_active, has_begun, slots_name, entries_name, slots_of, entries_of, is_place, is_at, image, entered_in, entered_by, changed_entry, entry, Made, made_by, without, changed_makers, makers, AreAllowed}
+use Rattle.redo_model.specs.Effects.{Still, Formats, Adds, TakesBack, Cleans}
 use Rattle.redo_model.proofs.Bridge.{image_is, entry_is}
 use Rattle.redo_laws.specs.Added.{any_in}
 use Rattle.redo_laws.specs.Chain.{EachMade}

@@ -1,13 +1,10 @@
 -- What can change a block's class: a record that changes the block, and a commit or an end of a transaction that its slots
 -- name. So a block that was settled stays exact until one of those comes.
 use Rattle.std.specs.Prelude.{◌≡◌, ℕ, Bool, false, List, ◌∷◌}
-use Rattle.seg_base.specs.declared.shape.Shape.{Shape}
-use Rattle.seg_base.specs.Blocks.{Block}
-use Rattle.redo_record.specs.declared.record.Record.{Record}
-use Rattle.redo_model.specs.Effects.{effect_of, TxnEffect, Commits, Ends, txn_effect}
-use Rattle.redo_model.specs.AllowedTransactions.{slots_name}
-use Rattle.redo_model.specs.Blocks.{block_of, used_of, free_of, class_of_block}
-use Rattle.redo_model.specs.Lawful.{AreAllowed}
+use Rattle.seg_words.specs.Types.{Shape, Block}
+use Rattle.redo_model.specs.Records.{Record}
+use Rattle.redo_model.specs.Model.{effect_of, TxnEffect, txn_effect, slots_name, block_of, used_of, free_of, class_of_block, AreAllowed}
+use Rattle.redo_model.specs.Effects.{Commits, Ends}
 use Rattle.redo_laws.specs.Added.{is_change}
 
 -- it commits or ends a transaction that a slot of the block names

@@ -1,15 +1,9 @@
 -- What a Clean settles: no slot of its block names a committed transaction that isn't forgotten any more, its list entries name
 -- active transactions alone, and what the block counts is as before, and so its class.
 use Rattle.std.specs.Prelude.{◌≡◌, ℕ, ◌≤◌, true, false, List, ◌∷◌, Some}
-use Rattle.seg_base.specs.declared.shape.Shape.{Shape}
-use Rattle.seg_base.specs.declared.slot.Writer.TheVariants.{By}
-use Rattle.redo_record.specs.declared.record.Record.{Record}
-use Rattle.redo_record.specs.declared.record.Record.TheVariants.{Clean}
-use Rattle.redo_record.specs.declared.transaction.CleanRecord.{CleanRecord}
-use Rattle.redo_model.specs.Transactions.{is_active, commit_number, is_forgotten}
-use Rattle.redo_model.specs.Blocks.{used_of, class_of_block}
-use Rattle.redo_model.specs.Slots.{image, entry}
-use Rattle.redo_model.specs.Lawful.{AreAllowed}
+use Rattle.seg_words.specs.Types.{Shape, By}
+use Rattle.redo_model.specs.Records.{Record, Clean, CleanRecord}
+use Rattle.redo_model.specs.Model.{is_active, commit_number, is_forgotten, used_of, class_of_block, image, entry, AreAllowed}
 
 pub record CleanSettles (R : List Record) (c : CleanRecord) : Type 0 where
   pub slots : (k t d : ℕ) → (image (Clean c ∷ R) c.dba k).writer ≡ By t → commit_number R t ≡ Some d → is_forgotten R t ≡ false → ⊥

@@ -1,15 +1,9 @@
 -- A block names a transaction only where a row record of the transaction has a part in the block since its last FormatBlock.
 use Rattle.std.specs.Prelude.{◌≡◌, ℕ, ◌≤◌, Bool, true, false, cond, ◌&&◌, ◌||◌, eqb, List, [], ◌∷◌}
-use Rattle.seg_base.specs.declared.shape.Shape.{Shape}
-use Rattle.seg_base.specs.declared.slot.Writer.TheVariants.{By}
-use Rattle.redo_record.specs.declared.record.Record.{Record}
-use Rattle.redo_model.specs.Effects.{Effect, Formats, Adds, effect_of, written}
-use Rattle.redo_model.specs.Steps.{is_by}
-use Rattle.redo_model.specs.Transactions.{has_begun}
-use Rattle.redo_model.specs.AllowedTransactions.{is_named_in}
-use Rattle.redo_model.specs.Blocks.{block_of}
-use Rattle.redo_model.specs.Slots.{image, entry}
-use Rattle.redo_model.specs.Lawful.{AreAllowed}
+use Rattle.seg_words.specs.Types.{Shape, By}
+use Rattle.redo_model.specs.Records.{Record}
+use Rattle.redo_model.specs.Model.{Effect, effect_of, written, is_by, has_begun, is_named_in, block_of, image, entry, AreAllowed}
+use Rattle.redo_model.specs.Effects.{Formats, Adds}
 use Rattle.redo_laws.specs.Added.{any_in}
 
 abbrev pub wrote_after : Effect → ℕ → ℕ → Bool → Bool

@@ -1,17 +1,9 @@
 -- The cursor of a shrink.
-use Rattle.std.proofs.Common.{◌≡◌, ◌⊎◌, ℕ, suc, ◌+◌, ◌≤◌, ◌<◌, true, false, cond, ltb, List, [], ◌∷◌, ◌++◌, length, Option, Some, None, refl, sym, ◌∙◌, ap, subst, arith, inl, inr, le_trans, le_refl}
-use Rattle.std.specs.Prelude.{slice_get}
-use Rattle.std.proofs.lemmas.Bool.{or_left, or_right, or_cases, cases_Bool, ltb-true, ltb-false}
-use Rattle.seg_base.specs.declared.shape.Shape.{Shape}
-use Rattle.seg_base.specs.declared.slot.Writer.TheVariants.{By}
-use Rattle.redo_record.specs.declared.record.Record.{Record}
-use Rattle.redo_record.specs.declared.record.Record.TheVariants as made
-use Rattle.redo_record.specs.declared.transaction.ReuseRecord.{ReuseRecord}
-use Rattle.redo_model.specs.Lists.{prefix}
-use Rattle.redo_model.specs.Effects.{effect_of}
-use Rattle.redo_model.specs.Transactions.{is_active}
-use Rattle.redo_model.specs.Slots.{is_place, image}
-use Rattle.redo_model.specs.Segments.{data_blocks, is_formatted}
+use Rattle.std.proofs.Common.{◌≡◌, ◌⊎◌, ℕ, suc, ◌+◌, ◌≤◌, ◌<◌, true, false, cond, ltb, List, [], ◌∷◌, ◌++◌, length, Option, Some, None, refl, sym, ◌∙◌, ap, subst, arith, inl, inr, le_trans, le_refl, slice_get, ltb-true, ltb-false}
+use Rattle.seg_words.proofs.Lemmas.{or_left, or_right, or_cases, cases_Bool}
+use Rattle.seg_words.specs.Types.{Shape, By}
+use Rattle.redo_model.specs.Records.{Record, ReuseRecord}
+use Rattle.redo_model.specs.Model.{prefix, effect_of, is_active, is_place, image, data_blocks, is_formatted}
 use Rattle.redo_laws.proofs.lists.Prefixes.{prefix_all, prefix_more}
 use Rattle.redo_laws.proofs.lists.Since.{since_more, each_since}
 use Rattle.shrink_laws.specs.declared.skip.Skip.{Skip}
@@ -21,6 +13,7 @@ use Rattle.shrink_laws.specs.CursorLaws.{CursorStarts, CursorStays, CursorStaysS
 use Rattle.shrink_laws.specs.Grown.{lowers}
 use Rattle.shrink_laws.proofs.GrownLaw.{append_more, append_none, get_front, blocks_grow}
 use Rattle.shrink_laws.proofs.NamedLaw.{full_before}
+use Rattle.redo_record.specs.declared.record.Record.TheVariants as made
 
 -- what was passed stays passed
 

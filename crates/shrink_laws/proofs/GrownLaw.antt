@@ -1,12 +1,9 @@
 -- The data blocks of a table grow until it is lowered.
-use Rattle.std.proofs.Common.{◌≡◌, ℕ, zero, suc, ◌+◌, ◌<◌, true, false, eqb, List, [], ◌∷◌, ◌++◌, length, Some, refl, sym, ◌∙◌, ap, arith, inl, inr}
-use Rattle.std.specs.Prelude.{slice_get}
-use Rattle.std.specs.List.{position_or_len}
-use Rattle.std.proofs.lemmas.Bool.{cond-true, cond-false, cases_Bool, true≢false, or_cases}
-use Rattle.seg_base.specs.declared.shape.Shape.{Shape}
-use Rattle.redo_record.specs.declared.record.Record.{Record}
-use Rattle.redo_record.specs.declared.record.Record.TheVariants.{Extend, Lower}
-use Rattle.redo_model.specs.Segments.{extents_of, data_of, data_blocks}
+use Rattle.std.proofs.Common.{◌≡◌, ℕ, zero, suc, ◌+◌, ◌<◌, true, false, eqb, List, [], ◌∷◌, ◌++◌, length, Some, refl, sym, ◌∙◌, ap, arith, inl, inr, slice_get, true≢false}
+use Rattle.seg_words.specs.Types.{position_or_len, Shape}
+use Rattle.seg_words.proofs.Lemmas.{cond-true, cond-false, cases_Bool, or_cases}
+use Rattle.redo_model.specs.Records.{Record, Extend, Lower}
+use Rattle.redo_model.specs.Model.{extents_of, data_of, data_blocks}
 use Rattle.redo_laws.specs.Among.{is_in}
 use Rattle.redo_laws.proofs.space.ApartLaw.{is_listed}
 use Rattle.redo_laws.proofs.space.LowMark.{data_of-append}

@@ -1,17 +1,11 @@
 -- A head leads to another block.
 use Rattle.std.proofs.Common.{◌≡◌, ◌≢◌, ℕ, zero, suc, true, false, List, Option, Some, None, sym, ◌∙◌, ap, subst}
-use Rattle.seg_base.specs.declared.shape.Shape.{Shape}
-use Rattle.seg_base.specs.declared.slot.Kind.TheVariants.{Empty, Row, Head, Body}
-use Rattle.seg_base.specs.declared.slot.Rowid.{Rowid}
-use Rattle.seg_base.specs.declared.slot.Slot.{Slot}
-use Rattle.seg_base.specs.Cleaning.{number_of_writer, as_told}
-use Rattle.redo_record.specs.declared.record.Record.{Record}
-use Rattle.redo_record.specs.declared.record.Record.TheVariants.{Insert, Update, Migrate, Return, Delete, Move}
-use Rattle.redo_record.specs.declared.row.RowBody.{RowBody}
-use Rattle.redo_record.specs.declared.row.MoveRecord.{MoveRecord}
-use Rattle.redo_model.specs.Effects.{Step, Adds, row_step, move_step}
-use Rattle.redo_model.specs.AllowedRows.{InsertAllowed, UpdateAllowed, MigrateAllowed, migrates_plain, migrates_again, ReturnAllowed, DeleteAllowed, deletes_plain, deletes_migrated}
-use Rattle.redo_model.specs.AllowedMoves.{MoveAllowed, moves_plain, moves_to_body, moves_migrated}
+use Rattle.seg_words.specs.Types.{Shape, Empty, Row, Head, Body, Rowid, Slot, number_of_writer, as_told}
+use Rattle.redo_model.specs.Records.{Record, Insert, Update, Migrate, Return, Delete, Move, RowBody, MoveRecord}
+use Rattle.redo_model.specs.Model.{Step, row_step, move_step, InsertAllowed, UpdateAllowed, MigrateAllowed, ReturnAllowed, DeleteAllowed, MoveAllowed}
+use Rattle.redo_model.specs.Effects.{Adds}
+use Rattle.redo_model.specs.AllowedRows.{migrates_plain, migrates_again, deletes_plain, deletes_migrated}
+use Rattle.redo_model.specs.AllowedMoves.{moves_plain, moves_to_body, moves_migrated}
 use Rattle.redo_laws.proofs.steps.ImageFacts.{IsKept, NewHave, AllHave, Puts, all_have}
 use Rattle.shrink_laws.specs.Heads.{HeadsAreApart}
 

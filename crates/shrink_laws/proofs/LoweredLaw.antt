@@ -1,12 +1,9 @@
 -- What a Lower leaves.
-use Rattle.std.proofs.Common.{◌≡◌, ℕ, ◌+◌, List, ◌∷◌, ◌++◌, length, take, drop, refl, sym, ◌∙◌, ap, subst}
-use Rattle.std.specs.Prelude.{Contains}
-use Rattle.std.proofs.lemmas.Bool.{cond-true, cond-false, eq-eqb, ne_eqb}
-use Rattle.seg_base.specs.declared.shape.Shape.{Shape}
-use Rattle.redo_record.specs.declared.record.Record.{Record}
-use Rattle.redo_record.specs.declared.record.Record.TheVariants.{Lower}
-use Rattle.redo_record.specs.declared.space.LowerRecord.{LowerRecord}
-use Rattle.redo_model.specs.Segments.{extents_of, data_of, data_blocks, Marks, marks, under_high}
+use Rattle.std.proofs.Common.{◌≡◌, ℕ, ◌+◌, List, ◌∷◌, ◌++◌, length, take, drop, refl, sym, ◌∙◌, ap, subst, Contains, eq-eqb, ne_eqb}
+use Rattle.seg_words.proofs.Lemmas.{cond-true, cond-false}
+use Rattle.seg_words.specs.Types.{Shape}
+use Rattle.redo_model.specs.Records.{Record, Lower, LowerRecord}
+use Rattle.redo_model.specs.Model.{extents_of, data_of, data_blocks, Marks, marks, under_high}
 use Rattle.redo_laws.proofs.space.Places.{front_of}
 use Rattle.shrink_laws.specs.Lowered.{OtherLeft, LowersLeaveTheRest}
 

@@ -1,15 +1,10 @@
 -- What a slot holds changes only where the slot is named.
-use Rattle.std.proofs.Common.{◌≡◌, ℕ, zero, suc, Bool, true, false, cond, ◌||◌, eqb, List, [], ◌∷◌, Option, Some, None, refl, sym, ◌∙◌, ap}
-use Rattle.std.proofs.lemmas.Bool.{cond-false, or_parts, true≢false}
-use Rattle.seg_base.specs.declared.slot.Slot.{Slot}
-use Rattle.seg_base.specs.Blocks.{new_slot}
-use Rattle.seg_base.specs.Room.{is_empty}
-use Rattle.seg_base.specs.Cleaning.{as_told, number_of_writer, clean_slot}
-use Rattle.redo_record.specs.declared.record.Record.{Record}
-use Rattle.redo_record.specs.declared.part.RowPart.{RowPart}
-use Rattle.redo_record.specs.declared.part.BackPart.{BackPart}
-use Rattle.redo_model.specs.Effects.{Effect, Still, Formats, Adds, TakesBack, Cleans, effect_of, written, restored}
-use Rattle.redo_model.specs.Slots.{is_place, placed_in, changed_image, image}
+use Rattle.std.proofs.Common.{◌≡◌, ℕ, zero, suc, Bool, true, false, cond, ◌||◌, eqb, List, [], ◌∷◌, Option, Some, None, refl, sym, ◌∙◌, ap, true≢false}
+use Rattle.seg_words.proofs.Lemmas.{cond-false, or_parts}
+use Rattle.seg_words.specs.Types.{Slot, new_slot, is_empty, as_told, number_of_writer, clean_slot}
+use Rattle.redo_model.specs.Records.{Record, RowPart, BackPart}
+use Rattle.redo_model.specs.Model.{Effect, effect_of, written, restored, is_place, placed_in, changed_image, image}
+use Rattle.redo_model.specs.Effects.{Still, Formats, Adds, TakesBack, Cleans}
 use Rattle.redo_laws.specs.Added.{names_slot}
 use Rattle.redo_laws.proofs.lists.Since.{each_since}
 use Rattle.shrink_laws.specs.Stops.{back_names, is_named_by}

@@ -1,18 +1,12 @@
 -- The cursor of a shrink that began after the records B: what is true of it after the records R, and what a step does.
 use Rattle.std.specs.Prelude.{◌≡◌, ℕ, ◌≤◌, ◌<◌, true, false, List, ◌∷◌, ◌++◌, length, Option, Some, None}
-use Rattle.seg_base.specs.declared.shape.Shape.{Shape}
-use Rattle.seg_base.specs.declared.slot.Writer.TheVariants.{By}
-use Rattle.seg_base.specs.Room.{writer_has_ended}
-use Rattle.redo_record.specs.declared.record.Record.{Record}
-use Rattle.redo_record.specs.declared.record.Record.TheVariants as made
-use Rattle.redo_record.specs.declared.row.MoveRecord.{MoveRecord}
-use Rattle.redo_record.specs.declared.transaction.ReuseRecord.{ReuseRecord}
-use Rattle.redo_model.specs.Transactions.{is_active, ended_in}
-use Rattle.redo_model.specs.Segments.{data_blocks}
-use Rattle.redo_model.specs.AllowedMoves.{first_taker}
+use Rattle.seg_words.specs.Types.{Shape, By, writer_has_ended}
+use Rattle.redo_model.specs.Records.{Record, MoveRecord, ReuseRecord}
+use Rattle.redo_model.specs.Model.{is_active, ended_in, data_blocks, first_taker}
 use Rattle.redo_laws.specs.Added.{names_slot}
 use Rattle.shrink_laws.specs.declared.skip.Skip.{Skip}
 use Rattle.shrink_laws.specs.Stops.{IsFull, row_image, is_skipped, IsPassed, IsAt, last_formatted, LeadsDown}
+use Rattle.redo_record.specs.declared.record.Record.TheVariants as made
 
 -- The table has the blocks that it had, in their places. Each slot above the cursor that holds anything was passed, whether
 -- its row may be moved or not: so it stays true when a writer ends.

@@ -1,8 +1,8 @@
 -- What is true of a cursor as its shrink starts, as others add records, as it goes down, skips and moves, and where it stops.
 use Rattle.std.specs.Prelude.{◌≡◌, ℕ, ◌≤◌, false, List, [], ◌∷◌, length}
-use Rattle.seg_base.specs.declared.shape.Shape.{Shape}
-use Rattle.redo_record.specs.declared.record.Record.{Record}
-use Rattle.redo_model.specs.Lists.{Extends}
+use Rattle.seg_words.specs.Types.{Shape}
+use Rattle.redo_model.specs.Records.{Record}
+use Rattle.redo_model.specs.Model.{Extends}
 use Rattle.redo_laws.specs.Since.{any_since}
 use Rattle.shrink_laws.specs.declared.skip.Skip.{Skip}
 use Rattle.shrink_laws.specs.Grown.{lowers}

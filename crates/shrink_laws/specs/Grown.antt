@@ -1,10 +1,8 @@
 -- Where no Lower of a table came between, its data blocks of before are a first part of those of now, each at its position.
 use Rattle.std.specs.Prelude.{◌≡◌, ℕ, Bool, false, eqb, List, ◌++◌, length, Contains}
-use Rattle.seg_base.specs.declared.shape.Shape.{Shape}
-use Rattle.redo_record.specs.declared.record.Record.{Record}
-use Rattle.redo_record.specs.declared.record.Record.TheVariants.{Lower}
-use Rattle.redo_model.specs.Lists.{Extends}
-use Rattle.redo_model.specs.Segments.{data_blocks, position}
+use Rattle.seg_words.specs.Types.{Shape}
+use Rattle.redo_model.specs.Records.{Record, Lower}
+use Rattle.redo_model.specs.Model.{Extends, data_blocks, position}
 use Rattle.redo_laws.specs.Since.{any_since}
 use Rattle.shrink_laws.specs.Stops.{IsAt}
 

@@ -1,12 +1,8 @@
 -- The head and the body of a migrated row stand in different blocks.
 use Rattle.std.specs.Prelude.{◌≡◌, ◌≢◌, ℕ, List, Some}
-use Rattle.seg_base.specs.declared.shape.Shape.{Shape}
-use Rattle.seg_base.specs.declared.slot.Kind.TheVariants.{Head}
-use Rattle.seg_base.specs.declared.slot.Rowid.{Rowid}
-use Rattle.redo_record.specs.declared.record.Record.{Record}
-use Rattle.redo_model.specs.Slots.{image}
-use Rattle.redo_model.specs.AllowedRows.{IsMigrated}
-use Rattle.redo_model.specs.Lawful.{AreAllowed}
+use Rattle.seg_words.specs.Types.{Shape, Head, Rowid}
+use Rattle.redo_model.specs.Records.{Record}
+use Rattle.redo_model.specs.Model.{image, IsMigrated, AreAllowed}
 
 pub record HeadsApart (R : List Record) : Type 0 where
   pub head : (b k : ℕ) (p : Rowid) → (image R b k).kind ≡ Head → (image R b k).link ≡ Some p → p.dba ≢ b

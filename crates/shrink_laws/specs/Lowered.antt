@@ -1,11 +1,8 @@
 -- What a Lower leaves: the first extents of its table, every other table, and what stands in every block.
 use Rattle.std.specs.Prelude.{◌≡◌, ◌≢◌, ℕ, List, ◌∷◌, ◌++◌, take}
-use Rattle.seg_base.specs.declared.shape.Shape.{Shape}
-use Rattle.redo_record.specs.declared.record.Record.{Record}
-use Rattle.redo_record.specs.declared.record.Record.TheVariants.{Lower}
-use Rattle.redo_record.specs.declared.space.LowerRecord.{LowerRecord}
-use Rattle.redo_model.specs.Segments.{extents_of, data_blocks, marks, is_formatted, IsRowBlock}
-use Rattle.redo_model.specs.Kept.{kept_class}
+use Rattle.seg_words.specs.Types.{Shape}
+use Rattle.redo_model.specs.Records.{Record, Lower, LowerRecord}
+use Rattle.redo_model.specs.Model.{extents_of, data_blocks, marks, is_formatted, IsRowBlock, kept_class}
 use Rattle.redo_laws.specs.Added.{SameBlock}
 
 -- of another table

@@ -1,10 +1,9 @@
 -- A slot holds what it held until a row record, a Back or a Move names it, or its block is formatted: cleaning changes only
 -- whose the image is, and its room.
 use Rattle.std.specs.Prelude.{◌≡◌, ℕ, Bool, false, ◌||◌, eqb, List, length}
-use Rattle.redo_record.specs.declared.record.Record.{Record}
-use Rattle.redo_model.specs.Lists.{Extends}
-use Rattle.redo_model.specs.Effects.{Effect, Formats, effect_of}
-use Rattle.redo_model.specs.Slots.{image}
+use Rattle.redo_model.specs.Records.{Record}
+use Rattle.redo_model.specs.Model.{Extends, Effect, effect_of, image}
+use Rattle.redo_model.specs.Effects.{Formats}
 use Rattle.redo_laws.specs.Since.{any_since}
 use Rattle.shrink_laws.specs.Stops.{is_named_by}
 

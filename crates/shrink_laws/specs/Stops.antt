@@ -2,22 +2,10 @@
 -- towards the front of the segment (Oracle Database Administrator's Guide, "Shrinking Database Segments Online"); in what
 -- order rows move, and that a row with an active writer is skipped, is this engine's own.
 use Rattle.std.specs.Prelude.{◌≡◌, ℕ, suc, ◌≤◌, ◌<◌, Bool, true, false, cond, ◌||◌, List, [], ◌∷◌, length, Option, Some, None, slice_get}
-use Rattle.seg_base.specs.declared.shape.Shape.{Shape}
-use Rattle.seg_base.specs.declared.slot.Rowid.{Rowid}
-use Rattle.seg_base.specs.declared.slot.Slot.{Slot}
-use Rattle.seg_base.specs.declared.slot.Kind.{Kind}
-use Rattle.seg_base.specs.declared.slot.Kind.TheVariants.{Head}
-use Rattle.seg_base.specs.declared.slot.Writer.TheVariants.{By}
-use Rattle.seg_base.specs.Room.{is_empty, writer_has_ended}
-use Rattle.redo_record.specs.declared.record.Record.{Record}
-use Rattle.redo_record.specs.declared.part.BackPart.{BackPart}
-use Rattle.redo_model.specs.Effects.{Effect, Adds, TakesBack, effect_of}
-use Rattle.redo_model.specs.Lists.{prefix}
-use Rattle.redo_model.specs.Transactions.{is_active, ended_in}
-use Rattle.redo_model.specs.Slots.{is_place, image}
-use Rattle.redo_model.specs.Segments.{is_formatted, data_blocks}
-use Rattle.redo_model.specs.AllowedRows.{at_place}
-use Rattle.redo_model.specs.AllowedMoves.{first_taker}
+use Rattle.seg_words.specs.Types.{Shape, Rowid, Slot, Kind, Head, By, is_empty, writer_has_ended}
+use Rattle.redo_model.specs.Records.{Record, BackPart}
+use Rattle.redo_model.specs.Model.{Effect, effect_of, prefix, is_active, ended_in, is_place, image, is_formatted, data_blocks, at_place, first_taker}
+use Rattle.redo_model.specs.Effects.{Adds, TakesBack}
 use Rattle.redo_laws.specs.Added.{names_slot}
 use Rattle.redo_laws.specs.Since.{any_since}
 use Rattle.shrink_laws.specs.declared.skip.Skip.{Skip}

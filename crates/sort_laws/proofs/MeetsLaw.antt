@@ -1,25 +1,11 @@
 -- An allowed record meets the sorts of pages that it needs.
-use Rattle.std.proofs.Common.{◌≡◌, ◌⊎◌, ℕ, zero, suc, ◌+◌, ◌-◌, ◌*◌, ◌%◌, ◌<◌, ◌≤◌, max, true, false, cond, eqb, List, [], ◌∷◌, ◌++◌, length, Option, Some, None, refl, sym, ◌∙◌, ap, ap₂, subst, arith, inl, inr, length-append}
-use Rattle.std.proofs.lemmas.Bool.{cond-true, true≢false, eq-eqb}
+use Rattle.std.proofs.Common.{◌≡◌, ◌⊎◌, ℕ, zero, suc, ◌+◌, ◌-◌, ◌*◌, ◌%◌, ◌<◌, ◌≤◌, max, true, false, cond, eqb, List, [], ◌∷◌, ◌++◌, length, Option, Some, None, refl, sym, ◌∙◌, ap, ap₂, subst, arith, inl, inr, length-append, true≢false, eq-eqb}
+use Rattle.seg_words.proofs.Lemmas.{cond-true}
 use Rattle.std.proofs.lemmas.Nat.{mod-mul-add}
-use Rattle.seg_base.specs.declared.shape.Shape.{Shape}
-use Rattle.seg_base.specs.declared.slot.Slot.{Slot}
-use Rattle.seg_base.specs.Blocks.{new_slot}
-use Rattle.seg_base.specs.Cleaning.{number_of_writer, as_told, clean_slot}
-use Rattle.seg_base.specs.Places.{first_block, is_shape}
-use Rattle.seg_base.specs.Room.{is_empty}
-use Rattle.redo_record.specs.declared.record.Record.{Record}
-use Rattle.redo_record.specs.declared.record.Record.TheVariants.{Extend, Begin, Reuse, Insert, Update, Migrate, Return, Delete, Commit, Back, Ended, Move}
-use Rattle.redo_record.specs.declared.space.ExtendRecord.{ExtendRecord}
-use Rattle.redo_record.specs.declared.space.FormatBlockRecord.{FormatBlockRecord}
-use Rattle.redo_record.specs.declared.space.ClassRecord.{ClassRecord}
-use Rattle.redo_model.specs.Effects.{Step, Effect, Still, Formats, Adds, TakesBack, Cleans, effect_of}
-use Rattle.redo_model.specs.Ordinals.{txn_count}
-use Rattle.redo_model.specs.Transactions.{is_active, has_begun}
-use Rattle.redo_model.specs.Segments.{Extent, extents_of, data_blocks, high_mark, extent_at, block_in, group_start}
-use Rattle.redo_model.specs.Slots.{changed_image, image}
-use Rattle.redo_model.specs.AllowedTables.{ExtendAllowed, FormatAllowed, ClassAllowed, StatesBitmaps}
-use Rattle.redo_model.specs.Lawful.{IsKindAllowed, IsOverflow, AreAllowed}
+use Rattle.seg_words.specs.Types.{Shape, Slot, new_slot, number_of_writer, as_told, clean_slot, first_block, is_shape, is_empty}
+use Rattle.redo_model.specs.Records.{Record, Extend, Begin, Reuse, Insert, Update, Migrate, Return, Delete, Commit, Back, Ended, Move, ExtendRecord, FormatBlockRecord, ClassRecord}
+use Rattle.redo_model.specs.Model.{Step, Effect, effect_of, txn_count, is_active, has_begun, Extent, extents_of, data_blocks, high_mark, extent_at, block_in, group_start, changed_image, image, ExtendAllowed, FormatAllowed, ClassAllowed, StatesBitmaps, IsKindAllowed, IsOverflow, AreAllowed}
+use Rattle.redo_model.specs.Effects.{Still, Formats, Adds, TakesBack, Cleans}
 use Rattle.redo_laws.specs.Among.{is_in}
 use Rattle.redo_laws.proofs.allowed.AllKinds.{shape_of}
 use Rattle.redo_laws.proofs.space.Apart.{apart_extents}

@@ -1,17 +1,9 @@
 -- Sorts of pages.
-use Rattle.std.proofs.Common.{◌≡◌, ◌⊎◌, ℕ, zero, suc, ◌+◌, ◌%◌, ◌<◌, ◌≤◌, min, Bool, true, false, cond, not, ◌||◌, eqb, ltb, leb, List, [], ◌∷◌, ◌++◌, length, take, Option, Some, None, refl, sym, ◌∙◌, ap, subst, arith, inl, inr}
-use Rattle.std.proofs.lemmas.Bool.{cond-true, cond-false, true≢false, cases_Bool, eqb-true, eqb-false, eq-eqb, ne_eqb, or_cases, or_left, or_right, and_parts, and_from, leb-true, ltb-true, ltb-false, le-leb, lt-ltb, not-true}
-use Rattle.seg_base.specs.declared.shape.Shape.{Shape}
-use Rattle.seg_base.specs.Places.{first_block, is_extent, is_shape, head_blocks}
-use Rattle.redo_record.specs.declared.record.Record.{Record}
-use Rattle.redo_record.specs.declared.record.Record.TheVariants.{Table, Movement, Extend, FormatBlock, Class, Advance, Lower, Begin, Reuse, Insert, Update, Migrate, Return, Delete, Commit, Back, Ended, Move, Clean}
-use Rattle.redo_record.specs.declared.space.ExtendRecord.{ExtendRecord}
-use Rattle.redo_record.specs.declared.transaction.BeginRecord.{BeginRecord}
-use Rattle.redo_model.specs.Ordinals.{txn_count}
-use Rattle.redo_model.specs.Segments.{Extent, extents_of, in_extent, data_blocks, high_mark, is_formatted, IsTable, has_extent, is_taken, is_free_extent, extent_at, block_in, group_start}
-use Rattle.redo_model.specs.Undo.{undo_sequence}
-use Rattle.redo_model.specs.AllowedTables.{ExtendAllowed}
-use Rattle.redo_model.specs.Lawful.{IsKindAllowed, AreAllowed}
+use Rattle.std.proofs.Common.{◌≡◌, ◌⊎◌, ℕ, zero, suc, ◌+◌, ◌%◌, ◌<◌, ◌≤◌, min, Bool, true, false, cond, not, ◌||◌, eqb, ltb, leb, List, [], ◌∷◌, ◌++◌, length, take, Option, Some, None, refl, sym, ◌∙◌, ap, subst, arith, inl, inr, true≢false, eqb-true, eq-eqb, ne_eqb, leb-true, ltb-true, ltb-false, le-leb, lt-ltb}
+use Rattle.seg_words.proofs.Lemmas.{cond-true, cond-false, cases_Bool, eqb-false, or_cases, or_left, or_right, and_parts, and_from, not-true}
+use Rattle.seg_words.specs.Types.{Shape, first_block, is_extent, is_shape, head_blocks}
+use Rattle.redo_model.specs.Records.{Record, Table, Movement, Extend, FormatBlock, Class, Advance, Lower, Begin, Reuse, Insert, Update, Migrate, Return, Delete, Commit, Back, Ended, Move, Clean, ExtendRecord, BeginRecord}
+use Rattle.redo_model.specs.Model.{txn_count, Extent, extents_of, in_extent, data_blocks, high_mark, is_formatted, IsTable, has_extent, is_taken, is_free_extent, extent_at, block_in, group_start, undo_sequence, ExtendAllowed, IsKindAllowed, AreAllowed}
 use Rattle.redo_laws.specs.Among.{is_in}
 use Rattle.redo_laws.proofs.lists.Bools.{off}
 use Rattle.redo_laws.proofs.numbers.Bounds.{Limits, limits, reuse_bound}

@@ -1,17 +1,10 @@
 -- What an allowed record touches lies in the store.
-use Rattle.std.proofs.Common.{◌≡◌, ℕ, ◌+◌, ◌<◌, ◌≤◌, Bool, true, false, not, eqb, List, [], ◌∷◌, ◌++◌, take, Option, Some, None, refl, sym, subst, arith, inl, inr}
-use Rattle.std.proofs.lemmas.Bool.{true≢false, eqb-true, or_cases, and_parts, leb-true}
-use Rattle.seg_base.specs.declared.shape.Shape.{Shape}
-use Rattle.seg_base.specs.Places.{first_block, is_extent}
-use Rattle.redo_record.specs.declared.record.Record.{Record}
-use Rattle.redo_record.specs.declared.record.Record.TheVariants.{Table, Movement, Extend, FormatBlock, Class, Advance, Lower, Begin, Reuse, Insert, Update, Migrate, Return, Delete, Commit, Back, Ended, Move, Clean}
-use Rattle.redo_record.specs.declared.part.RowPart.{RowPart}
-use Rattle.redo_record.specs.declared.part.BackPart.{BackPart}
-use Rattle.redo_record.specs.declared.row.RowBody.{RowBody}
-use Rattle.redo_model.specs.Effects.{Step, Adds, effect_of, row_step, move_step}
-use Rattle.redo_model.specs.Segments.{Extent, extents_of, data_blocks, high_mark, IsRowBlock, has_extent, is_taken, is_free_extent, extent_at, block_in, group_start}
-use Rattle.redo_model.specs.AllowedTables.{l2_at}
-use Rattle.redo_model.specs.Lawful.{IsKindAllowed, AreAllowed}
+use Rattle.std.proofs.Common.{◌≡◌, ℕ, ◌+◌, ◌<◌, ◌≤◌, Bool, true, false, not, eqb, List, [], ◌∷◌, ◌++◌, take, Option, Some, None, refl, sym, subst, arith, inl, inr, true≢false, eqb-true, leb-true}
+use Rattle.seg_words.proofs.Lemmas.{or_cases, and_parts}
+use Rattle.seg_words.specs.Types.{Shape, first_block, is_extent}
+use Rattle.redo_model.specs.Records.{Record, Table, Movement, Extend, FormatBlock, Class, Advance, Lower, Begin, Reuse, Insert, Update, Migrate, Return, Delete, Commit, Back, Ended, Move, Clean, RowPart, BackPart, RowBody}
+use Rattle.redo_model.specs.Model.{Step, effect_of, row_step, move_step, Extent, extents_of, data_blocks, high_mark, IsRowBlock, has_extent, is_taken, is_free_extent, extent_at, block_in, group_start, l2_at, IsKindAllowed, AreAllowed}
+use Rattle.redo_model.specs.Effects.{Adds}
 use Rattle.redo_laws.specs.Among.{is_in}
 use Rattle.redo_laws.proofs.space.ApartLaw.{placed}
 use Rattle.redo_laws.proofs.allowed.Basics.{EffectBasics, basics}

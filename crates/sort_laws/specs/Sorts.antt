@@ -1,19 +1,10 @@
 -- What sort of page each block has after some records, as a fold of those that touch it; and that each record of a lawful
 -- list meets the sorts that it needs.
 use Rattle.std.specs.Prelude.{◌≡◌, ℕ, ◌+◌, ◌-◌, ◌%◌, ◌<◌, ◌≤◌, Bool, true, false, cond, eqb, List, [], ◌∷◌, Some}
-use Rattle.seg_base.specs.declared.shape.Shape.{Shape}
-use Rattle.seg_base.specs.Places.{first_block, is_shape}
-use Rattle.redo_record.specs.declared.record.Record.{Record}
-use Rattle.redo_record.specs.declared.record.Record.TheVariants.{Extend, FormatBlock, Class, Begin, Reuse, Insert, Update, Migrate, Return, Delete, Commit, Back, Ended}
-use Rattle.redo_record.specs.declared.space.ExtendRecord.{ExtendRecord}
-use Rattle.redo_record.specs.declared.space.FormatBlockRecord.{FormatBlockRecord}
-use Rattle.redo_record.specs.declared.space.ClassRecord.{ClassRecord}
-use Rattle.redo_record.specs.declared.transaction.ReuseRecord.{ReuseRecord}
-use Rattle.redo_model.specs.Effects.{Step, Adds, effect_of}
-use Rattle.redo_model.specs.Ordinals.{txn_count}
-use Rattle.redo_model.specs.Segments.{Extent, extents_of, is_formatted, extent_at, group_start}
-use Rattle.redo_model.specs.Undo.{undo_sequence}
-use Rattle.redo_model.specs.Lawful.{AreAllowed}
+use Rattle.seg_words.specs.Types.{Shape, first_block, is_shape}
+use Rattle.redo_model.specs.Records.{Record, Extend, FormatBlock, Class, Begin, Reuse, Insert, Update, Migrate, Return, Delete, Commit, Back, Ended, ExtendRecord, FormatBlockRecord, ClassRecord, ReuseRecord}
+use Rattle.redo_model.specs.Model.{Step, effect_of, txn_count, Extent, extents_of, is_formatted, extent_at, group_start, undo_sequence, AreAllowed}
+use Rattle.redo_model.specs.Effects.{Adds}
 use Rattle.redo_model.specs.Worked.{small}
 use Rattle.redo_laws.specs.Among.{is_in}
 use Rattle.page_laws.specs.Fits.{rows_named}

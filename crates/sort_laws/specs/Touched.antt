@@ -1,11 +1,8 @@
 -- The blocks whose pages a record changes, and those of headers and bitmaps that it names, lie in the store.
 use Rattle.std.specs.Prelude.{◌≡◌, ℕ, ◌+◌, ◌-◌, ◌%◌, ◌<◌, min, max, true, List, [], ◌∷◌, ◌++◌, Option, Some, None}
-use Rattle.seg_base.specs.declared.shape.Shape.{Shape}
-use Rattle.seg_base.specs.Places.{first_block, is_shape}
-use Rattle.redo_record.specs.declared.record.Record.{Record}
-use Rattle.redo_record.specs.declared.record.Record.TheVariants.{Table, Movement, Extend, FormatBlock, Class, Advance, Lower, Begin, Reuse, Insert, Update, Migrate, Return, Delete, Commit, Back, Ended, Move, Clean}
-use Rattle.redo_record.specs.declared.row.RowBody.{RowBody}
-use Rattle.redo_model.specs.Lawful.{AreAllowed}
+use Rattle.seg_words.specs.Types.{Shape, first_block, is_shape}
+use Rattle.redo_model.specs.Records.{Record, Table, Movement, Extend, FormatBlock, Class, Advance, Lower, Begin, Reuse, Insert, Update, Migrate, Return, Delete, Commit, Back, Ended, Move, Clean, RowBody}
+use Rattle.redo_model.specs.Model.{AreAllowed}
 use Rattle.redo_laws.specs.Among.{is_in}
 use Rattle.page_laws.specs.Fits.{blocks_of, back_blocks}
 

@@ -1,17 +1,9 @@
 -- The bests of the upper levels.
-use Rattle.std.proofs.Common.{◌≡◌, ℕ, zero, suc, ◌+◌, ◌-◌, ◌<◌, ◌≤◌, max, Bool, true, false, cond, ◌&&◌, eqb, ltb, leb, List, [], ◌∷◌, ◌++◌, length, take, Option, Some, None, refl, sym, ◌∙◌, ap, ap₂, subst, arith}
-use Rattle.std.proofs.lemmas.Bool.{cond-true, cond-false, true≢false, eqb-true, eqb-false, eq-eqb, or_left, or_right, and_parts, and_from, leb-true, leb-false, ltb-true, le-leb, lt-ltb}
-use Rattle.seg_base.specs.declared.shape.Shape.{Shape}
-use Rattle.seg_base.specs.Places.{first_block, head_blocks}
-use Rattle.redo_record.specs.declared.record.Record.{Record}
-use Rattle.redo_record.specs.declared.record.Record.TheVariants.{Extend, FormatBlock, Class, Lower}
-use Rattle.redo_record.specs.declared.space.ExtendRecord.{ExtendRecord}
-use Rattle.redo_record.specs.declared.space.LowerRecord.{LowerRecord}
-use Rattle.redo_record.specs.declared.space.FormatBlockRecord.{FormatBlockRecord}
-use Rattle.redo_record.specs.declared.space.ClassRecord.{ClassRecord}
-use Rattle.redo_model.specs.Segments.{Extent, extents_of, in_extent, extent_data, data_blocks, high_mark, has_extent, extent_at, index_of, group_start}
-use Rattle.redo_model.specs.Kept.{code_of, good_code, best_of, best_in_extent, best_in_group, best_in_l2, best_of_found, best_in_l1}
-use Rattle.redo_model.specs.Lawful.{IsKindAllowed, AreAllowed}
+use Rattle.std.proofs.Common.{◌≡◌, ℕ, zero, suc, ◌+◌, ◌-◌, ◌<◌, ◌≤◌, max, Bool, true, false, cond, ◌&&◌, eqb, ltb, leb, List, [], ◌∷◌, ◌++◌, length, take, Option, Some, None, refl, sym, ◌∙◌, ap, ap₂, subst, arith, true≢false, eqb-true, eq-eqb, leb-true, leb-false, ltb-true, le-leb, lt-ltb}
+use Rattle.seg_words.proofs.Lemmas.{cond-true, cond-false, eqb-false, or_left, or_right, and_parts, and_from}
+use Rattle.seg_words.specs.Types.{Shape, first_block, head_blocks}
+use Rattle.redo_model.specs.Records.{Record, Extend, FormatBlock, Class, Lower, ExtendRecord, LowerRecord, FormatBlockRecord, ClassRecord}
+use Rattle.redo_model.specs.Model.{Extent, extents_of, in_extent, extent_data, data_blocks, high_mark, has_extent, extent_at, index_of, group_start, code_of, good_code, best_of, best_in_extent, best_in_group, best_in_l2, best_of_found, best_in_l1, IsKindAllowed, AreAllowed}
 use Rattle.redo_laws.specs.Among.{is_in}
 use Rattle.redo_laws.proofs.lists.Bools.{off}
 use Rattle.redo_laws.proofs.space.Apart.{Apart, apart_extents}

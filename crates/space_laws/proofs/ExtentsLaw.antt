@@ -1,15 +1,10 @@
 -- Extents: what stays, what is freed, and what each of their blocks is.
-use Rattle.std.proofs.Common.{◌≡◌, ◌⊎◌, ℕ, zero, suc, ◌+◌, ◌-◌, ◌<◌, ◌≤◌, Bool, true, false, cond, not, ◌&&◌, ◌||◌, eqb, ltb, leb, List, [], ◌∷◌, ◌++◌, length, take, drop, Option, Some, None, refl, sym, ◌∙◌, ap, ap₂, subst, arith, inl, inr, le_refl}
-use Rattle.std.proofs.lemmas.Bool.{cond-true, true≢false, cases_Bool, cases_order, eqb-true, eqb-false, eq-eqb, or_left, or_right, and_parts, leb-true, ltb-true, leb-false, lt-ltb}
-use Rattle.seg_base.specs.declared.shape.Shape.{Shape}
-use Rattle.seg_base.specs.Places.{first_block, head_blocks}
-use Rattle.redo_record.specs.declared.record.Record.{Record}
-use Rattle.redo_record.specs.declared.record.Record.TheVariants.{Extend, Lower}
-use Rattle.redo_record.specs.declared.space.LowerRecord.{LowerRecord}
-use Rattle.redo_model.specs.Lists.{Extends, same, more}
-use Rattle.redo_model.specs.Segments.{Extent, extents_of, blocks_from, extent_data, data_of, data_blocks, has_extent, is_taken, extent_at, block_in, group_start}
-use Rattle.redo_model.specs.AllowedTables.{LowerAllowed}
-use Rattle.redo_model.specs.Lawful.{IsKindAllowed, AreAllowed}
+use Rattle.std.proofs.Common.{◌≡◌, ◌⊎◌, ℕ, zero, suc, ◌+◌, ◌-◌, ◌<◌, ◌≤◌, Bool, true, false, cond, not, ◌&&◌, ◌||◌, eqb, ltb, leb, List, [], ◌∷◌, ◌++◌, length, take, drop, Option, Some, None, refl, sym, ◌∙◌, ap, ap₂, subst, arith, inl, inr, le_refl, true≢false, eqb-true, eq-eqb, leb-true, ltb-true, leb-false, lt-ltb}
+use Rattle.seg_words.proofs.Lemmas.{cond-true, cases_Bool, cases_order, eqb-false, or_left, or_right, and_parts}
+use Rattle.seg_words.specs.Types.{Shape, first_block, head_blocks}
+use Rattle.redo_model.specs.Records.{Record, Extend, Lower, LowerRecord}
+use Rattle.redo_model.specs.Model.{Extends, Extent, extents_of, blocks_from, extent_data, data_of, data_blocks, has_extent, is_taken, extent_at, block_in, group_start, LowerAllowed, IsKindAllowed, AreAllowed}
+use Rattle.redo_model.specs.Lists.{same, more}
 use Rattle.redo_laws.specs.Among.{is_in}
 use Rattle.redo_laws.proofs.space.Apart.{Apart, apart_extents}
 use Rattle.redo_laws.proofs.lists.Bools.{off}

@@ -1,9 +1,8 @@
 -- Incarnations of extents.
 use Rattle.std.proofs.Common.{◌≡◌, ◌⊎◌, ℕ, zero, suc, ◌<◌, ◌≤◌, true, false, cond, eqb, List, [], ◌∷◌, ◌++◌, length, take, Option, Some, None, refl, sym, ap, arith, inl, inr, le_trans}
-use Rattle.redo_record.specs.declared.record.Record.{Record}
-use Rattle.redo_record.specs.declared.record.Record.TheVariants.{Extend, Lower}
-use Rattle.redo_model.specs.Lists.{Extends, same, more}
-use Rattle.redo_model.specs.Segments.{Extent, extents_of, extent_at}
+use Rattle.redo_model.specs.Records.{Record, Extend, Lower}
+use Rattle.redo_model.specs.Model.{Extends, Extent, extents_of, extent_at}
+use Rattle.redo_model.specs.Lists.{same, more}
 use Rattle.redo_laws.proofs.lists.Prefixes.{extends_length}
 use Rattle.space_laws.specs.Incarnations.{IncarnationsTell}
 

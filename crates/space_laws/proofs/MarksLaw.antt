@@ -3,7 +3,7 @@ use Rattle.redo_laws.proofs.space.ApartLaw.{is_listed}
 use Rattle.redo_laws.proofs.space.LowMark.{low}
 use Rattle.redo_laws.proofs.space.Places.{segments, a_table}
 use Rattle.redo_laws.proofs.spread.SpreadLaw.{present_block}
-use Rattle.redo_model.specs.Segments.{data_blocks}
+use Rattle.redo_model.specs.Model.{data_blocks}
 use Rattle.space_laws.specs.Marks.{MarksAreInOrder, FormattedAreUnderMark, TablesAreFew}
 
 pub marks_are_in_order : MarksAreInOrder

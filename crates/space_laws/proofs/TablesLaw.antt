@@ -1,14 +1,10 @@
 -- Tables and their names.
-use Rattle.std.proofs.Common.{◌≡◌, ℕ, suc, ◌≤◌, true, false, cond, eqb, List, [], ◌∷◌, Option, Some, None, refl, sym, ◌∙◌, ap, ap₂, arith, inl, inr}
-use Rattle.std.proofs.lemmas.Bool.{cond-true, cond-false, true≢false, cases_Bool, cases_order, eqb-true, ne_eqb, eq-eqb, and_parts, and_from}
-use Rattle.seg_base.specs.declared.shape.Shape.{Shape}
-use Rattle.redo_record.specs.declared.record.Record.{Record}
-use Rattle.redo_record.specs.declared.record.Record.TheVariants.{Table}
-use Rattle.redo_record.specs.declared.space.TableRecord.{TableRecord}
+use Rattle.std.proofs.Common.{◌≡◌, ℕ, suc, ◌≤◌, true, false, cond, eqb, List, [], ◌∷◌, Option, Some, None, refl, sym, ◌∙◌, ap, ap₂, arith, inl, inr, true≢false, eqb-true, ne_eqb, eq-eqb}
+use Rattle.seg_words.proofs.Lemmas.{cond-true, cond-false, cases_Bool, cases_order, and_parts, and_from}
+use Rattle.seg_words.specs.Types.{Shape}
+use Rattle.redo_model.specs.Records.{Record, Table, TableRecord}
 use Rattle.redo_model.specs.Lists.{same, more}
-use Rattle.redo_model.specs.Segments.{IsTable, is_byte_list, table_count, table_named, pctfree_of}
-use Rattle.redo_model.specs.AllowedTables.{TableAllowed}
-use Rattle.redo_model.specs.Lawful.{IsKindAllowed, AreAllowed}
+use Rattle.redo_model.specs.Model.{IsTable, is_byte_list, table_count, table_named, pctfree_of, TableAllowed, IsKindAllowed, AreAllowed}
 use Rattle.space_laws.specs.Tables.{HasName, TablesAreNamed, TablesStay}
 
 same_bytes : (xs ys : List ℕ) → is_byte_list xs ys ≡ true → xs ≡ ys

@@ -1,13 +1,8 @@
 -- What stays of a table's extents, what a Lower frees, and that each block of an extent has one role.
 use Rattle.std.specs.Prelude.{◌≡◌, ◌⊎◌, ℕ, ◌+◌, ◌<◌, ◌≤◌, true, not, ◌&&◌, List, ◌∷◌, Some, Contains}
-use Rattle.seg_base.specs.declared.shape.Shape.{Shape}
-use Rattle.seg_base.specs.Places.{first_block, head_blocks, is_shape}
-use Rattle.redo_record.specs.declared.record.Record.{Record}
-use Rattle.redo_record.specs.declared.record.Record.TheVariants.{Lower}
-use Rattle.redo_record.specs.declared.space.LowerRecord.{LowerRecord}
-use Rattle.redo_model.specs.Lists.{Extends}
-use Rattle.redo_model.specs.Segments.{Extent, extents_of, in_extent, data_blocks, IsTable, has_extent, is_taken, extent_at, header_of, l3_of, l2_of, group_start}
-use Rattle.redo_model.specs.Lawful.{AreAllowed}
+use Rattle.seg_words.specs.Types.{Shape, first_block, head_blocks, is_shape}
+use Rattle.redo_model.specs.Records.{Record, Lower, LowerRecord}
+use Rattle.redo_model.specs.Model.{Extends, Extent, extents_of, in_extent, data_blocks, IsTable, has_extent, is_taken, extent_at, header_of, l3_of, l2_of, group_start, AreAllowed}
 use Rattle.redo_laws.specs.Among.{is_in}
 
 -- a record that takes the extent at index n from table o: a Lower that names it

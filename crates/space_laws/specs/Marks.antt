@@ -1,10 +1,9 @@
 -- The marks of a table are in order and within its data blocks, its formatted blocks lie under the high one; there are at
 -- most 32 tables.
 use Rattle.std.specs.Prelude.{◌≡◌, ℕ, ◌≤◌, true, List, length, Contains}
-use Rattle.seg_base.specs.declared.shape.Shape.{Shape}
-use Rattle.redo_record.specs.declared.record.Record.{Record}
-use Rattle.redo_model.specs.Segments.{IsTable, IsRowBlock, data_blocks, low_mark, high_mark, is_formatted, table_count}
-use Rattle.redo_model.specs.Lawful.{AreAllowed}
+use Rattle.seg_words.specs.Types.{Shape}
+use Rattle.redo_model.specs.Records.{Record}
+use Rattle.redo_model.specs.Model.{IsTable, IsRowBlock, data_blocks, low_mark, high_mark, is_formatted, table_count, AreAllowed}
 
 pub record MarksOf (sh : Shape) (R : List Record) (o : ℕ) : Type 0 where
   pub order : low_mark R o ≤ high_mark R o

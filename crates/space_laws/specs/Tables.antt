@@ -1,11 +1,8 @@
 -- Tables and their names: a table that is there stays, with its name and its PCTFREE.
 use Rattle.std.specs.Prelude.{◌≡◌, ℕ, true, List, Some}
-use Rattle.seg_base.specs.declared.shape.Shape.{Shape}
-use Rattle.seg_base.specs.Words.{is_name}
-use Rattle.redo_record.specs.declared.record.Record.{Record}
-use Rattle.redo_model.specs.Lists.{Extends}
-use Rattle.redo_model.specs.Segments.{IsTable, table_named, pctfree_of}
-use Rattle.redo_model.specs.Lawful.{AreAllowed}
+use Rattle.seg_words.specs.Types.{Shape, is_name}
+use Rattle.redo_model.specs.Records.{Record}
+use Rattle.redo_model.specs.Model.{Extends, IsTable, table_named, pctfree_of, AreAllowed}
 
 -- a name of the table
 pub record HasName (R : List Record) (o : ℕ) : Type 0 where

@@ -1,31 +1,12 @@
 -- Each kind of row record and Move has the shape of a step.
-use Rattle.std.proofs.Common.{◌≡◌, ℕ, Bool, true, false, not, ◌&&◌, eqb, List, [], ◌∷◌, length, take, Option, Some, None, find, refl, sym, ◌∙◌, ap, ap₂, subst, inl, inr}
-use Rattle.std.proofs.lemmas.Bool.{eqb-true, cond-true, cond-false, true≢false, cases_Bool, eq-eqb, and_parts, and_from, or_left, or_right}
-use Rattle.seg_base.specs.declared.shape.Shape.{Shape}
-use Rattle.seg_base.specs.declared.slot.Kind.{Kind}
-use Rattle.seg_base.specs.declared.slot.Kind.TheVariants.{Row, Head, Body}
-use Rattle.seg_base.specs.declared.slot.Slot.{Slot}
-use Rattle.seg_base.specs.declared.slot.Writer.{Writer}
-use Rattle.seg_base.specs.declared.slot.Writer.TheVariants.{By, At}
-use Rattle.seg_base.specs.Room.{is_empty, writer_has_ended}
-use Rattle.redo_record.specs.declared.record.Record.{Record}
-use Rattle.redo_record.specs.declared.part.RowPart.{RowPart}
-use Rattle.redo_record.specs.declared.row.RowBody.{RowBody}
-use Rattle.redo_record.specs.declared.row.MoveRecord.{MoveRecord}
-use Rattle.redo_model.specs.Effects.{Step, row_step, move_step}
-use Rattle.redo_model.specs.Transactions.{is_active, ended_in}
-use Rattle.redo_model.specs.Steps.{standing, newest_on}
-use Rattle.redo_model.specs.Tables.{holds_row}
-use Rattle.redo_model.specs.Slots.{is_place, image}
-use Rattle.redo_model.specs.Lawful.{IsKindAllowed}
+use Rattle.std.proofs.Common.{◌≡◌, ℕ, Bool, true, false, not, ◌&&◌, eqb, List, [], ◌∷◌, length, take, Option, Some, None, find, refl, sym, ◌∙◌, ap, ap₂, subst, inl, inr, eqb-true, true≢false, eq-eqb, MatchOption}
+use Rattle.seg_words.proofs.Lemmas.{cond-true, cond-false, cases_Bool, and_parts, and_from, or_left, or_right}
+use Rattle.seg_words.specs.Types.{Shape, Kind, Row, Head, Body, Slot, Writer, By, At, is_empty, writer_has_ended, Shrink}
+use Rattle.redo_model.specs.Records.{Record, RowPart, RowBody, MoveRecord, Insert, Update, Migrate, Return, Delete, Move}
+use Rattle.redo_model.specs.Model.{Step, row_step, move_step, is_active, ended_in, standing, newest_on, holds_row, is_place, image, IsKindAllowed, takes_row, data_blocks, is_formatted, position, pctfree_of, IsTable, Content, nothing, plain_row, head_to, body_of, with_bytes, at_place, txn_part, next_slot, MayChangeRow, IsFreeFor, InsertAllowed, UpdateAllowed, MigratePlain, MigrateAgain, MigrateAllowed, ReturnAllowed, DeletePlain, DeleteMigrated, DeleteAllowed, move_part, first_taker, MovePlain, MoveToBody, MoveMigrated, MoveAllowed}
 use Rattle.redo_laws.proofs.steps.Facts.{MayOver}
-use Rattle.std.specs.Prelude.{MatchOption}
-use Rattle.seg_base.specs.declared.slot.Taker.TheVariants.{Shrink}
-use Rattle.redo_record.specs.declared.record.Record.TheVariants.{Insert, Update, Migrate, Return, Delete, Move}
-use Rattle.redo_model.specs.Blocks.{takes_row}
-use Rattle.redo_model.specs.Segments.{data_blocks, is_formatted, position, pctfree_of, IsTable}
-use Rattle.redo_model.specs.AllowedRows.{Content, nothing, plain_row, head_to, body_of, with_bytes, at_place, txn_part, next_slot, MayChangeRow, IsFreeFor, InsertAllowed, UpdateAllowed, MigratePlain, MigrateAgain, MigrateAllowed, migrates_plain, migrates_again, ReturnAllowed, DeletePlain, DeleteMigrated, DeleteAllowed, deletes_plain, deletes_migrated}
-use Rattle.redo_model.specs.AllowedMoves.{move_part, first_taker, MovePlain, MoveToBody, MoveMigrated, MoveAllowed, moves_plain, moves_to_body, moves_migrated}
+use Rattle.redo_model.specs.AllowedRows.{migrates_plain, migrates_again, deletes_plain, deletes_migrated}
+use Rattle.redo_model.specs.AllowedMoves.{moves_plain, moves_to_body, moves_migrated}
 use Rattle.redo_laws.specs.Among.{is_in}
 use Rattle.redo_laws.proofs.space.Places.{in_take, Segments, a_table}
 use Rattle.redo_laws.proofs.allowed.Shapes.{Present, row_block, Replaces, Puts, IsHolder, Source, StandsIn, OldRow, StepShape, holder_bytes, target_reusable, empty_of, row_of_empty}

@@ -1,18 +1,11 @@
 -- What each row record and Move states of its undo, its writer and its parts, whatever its kind.
 use Rattle.std.proofs.Common.{◌≡◌, ℕ, suc, ◌≤◌, Bool, true, false, List, ◌∷◌, length, sym, ◌∙◌, subst, arith}
-use Rattle.seg_base.specs.declared.shape.Shape.{Shape}
-use Rattle.seg_base.specs.declared.slot.Writer.TheVariants.{By, At}
-use Rattle.redo_record.specs.declared.record.Record.{Record}
-use Rattle.redo_record.specs.declared.record.Record.TheVariants.{Insert, Update, Migrate, Return, Delete, Move}
-use Rattle.redo_record.specs.declared.part.RowPart.{RowPart}
-use Rattle.redo_record.specs.declared.row.RowBody.{RowBody}
-use Rattle.redo_record.specs.declared.row.MoveRecord.{MoveRecord}
-use Rattle.redo_model.specs.Effects.{Step, Effect, Adds, effect_of, row_step, move_step}
-use Rattle.redo_model.specs.Ordinals.{commit_count}
-use Rattle.redo_model.specs.Transactions.{is_active}
-use Rattle.redo_model.specs.AllowedRows.{StatesUndo, MayChange, MigrateAllowed, migrates_plain, migrates_again, DeleteAllowed, deletes_plain, deletes_migrated}
-use Rattle.redo_model.specs.AllowedMoves.{MayMove, MoveAllowed, moves_plain, moves_to_body, moves_migrated}
-use Rattle.redo_model.specs.Lawful.{IsKindAllowed}
+use Rattle.seg_words.specs.Types.{Shape, By, At}
+use Rattle.redo_model.specs.Records.{Record, Insert, Update, Migrate, Return, Delete, Move, RowPart, RowBody, MoveRecord}
+use Rattle.redo_model.specs.Model.{Step, Effect, effect_of, row_step, move_step, commit_count, is_active, StatesUndo, MayChange, MigrateAllowed, DeleteAllowed, MayMove, MoveAllowed, IsKindAllowed}
+use Rattle.redo_model.specs.Effects.{Adds}
+use Rattle.redo_model.specs.AllowedRows.{migrates_plain, migrates_again, deletes_plain, deletes_migrated}
+use Rattle.redo_model.specs.AllowedMoves.{moves_plain, moves_to_body, moves_migrated}
 
 pub record Basics (R : List Record) (st : Step) : Type 0 where
   pub undo : StatesUndo R st.undo st.parts

@@ -1,32 +1,12 @@
 -- The shape of a step: what its parts replace, what they put, and from where the row comes.
-use Rattle.std.proofs.Common.{◌≡◌, ◌⊎◌, ℕ, suc, Bool, true, false, cond, ◌||◌, eqb, ltb, List, [], ◌∷◌, length, get_or, Option, Some, None, refl, sym, ◌∙◌, ap, ap₂, subst, inl, inr}
-use Rattle.std.proofs.lemmas.Bool.{eqb-true, cond-true, cond-false, true≢false, cases_Bool, eq-eqb, and_parts, and_from, or_cases, or_left, or_right, ltb-true, ltb-false}
-use Rattle.seg_base.specs.declared.shape.Shape.{Shape}
-use Rattle.seg_base.specs.declared.slot.Kind.{Kind}
-use Rattle.seg_base.specs.declared.slot.Kind.TheVariants.{Empty, Row, Head, Body}
-use Rattle.seg_base.specs.declared.slot.Slot.{Slot}
-use Rattle.seg_base.specs.declared.slot.Writer.TheVariants.{By, At}
-use Rattle.seg_base.specs.Blocks.{new_slot}
-use Rattle.seg_base.specs.Room.{is_empty, writer_has_ended}
-use Rattle.redo_record.specs.declared.record.Record.{Record}
-use Rattle.redo_record.specs.declared.part.RowPart.{RowPart}
-use Rattle.redo_model.specs.Effects.{Step, written, part_addr}
-use Rattle.redo_model.specs.Ordinals.{commit_count, row_count}
-use Rattle.redo_model.specs.Transactions.{is_active, ended_in}
-use Rattle.redo_model.specs.Steps.{standing, newest_on}
-use Rattle.redo_model.specs.Tables.{holds_row, row_bytes, view}
-use Rattle.redo_model.specs.Slots.{is_place, placed_in, image}
-use Rattle.redo_model.specs.Versions.{row_in}
+use Rattle.std.proofs.Common.{◌≡◌, ◌⊎◌, ℕ, suc, Bool, true, false, cond, ◌||◌, eqb, ltb, List, [], ◌∷◌, length, get_or, Option, Some, None, refl, sym, ◌∙◌, ap, ap₂, subst, inl, inr, eqb-true, true≢false, eq-eqb, ltb-true, ltb-false}
+use Rattle.seg_words.proofs.Lemmas.{cond-true, cond-false, cases_Bool, and_parts, and_from, or_cases, or_left, or_right, get_or_past, passes_at_first}
+use Rattle.seg_words.specs.Types.{Shape, Kind, Empty, Row, Head, Body, Slot, By, At, new_slot, is_empty, writer_has_ended, next_room, is_reusable, position_or_len}
+use Rattle.redo_model.specs.Records.{Record, RowPart}
+use Rattle.redo_model.specs.Model.{Step, written, part_addr, commit_count, row_count, is_active, ended_in, standing, newest_on, holds_row, row_bytes, view, is_place, placed_in, image, row_in, slots_of, data_blocks, is_formatted, high_mark, IsRowBlock, IsTable, next_slot}
 use Rattle.redo_laws.proofs.lists.Every.{Every}
 use Rattle.redo_laws.proofs.steps.OnTop.{is_named}
 use Rattle.redo_laws.proofs.steps.Facts.{StatesOld, place_of, MayOver}
-use Rattle.seg_base.specs.Room.{next_room, is_reusable}
-use Rattle.std.specs.List.{position_or_len}
-use Rattle.std.proofs.lemmas.List.{get_or_past}
-use Rattle.std.proofs.lemmas.List.Sums.{passes_at_first}
-use Rattle.redo_model.specs.Blocks.{slots_of}
-use Rattle.redo_model.specs.Segments.{data_blocks, is_formatted, high_mark, IsRowBlock, IsTable}
-use Rattle.redo_model.specs.AllowedRows.{next_slot}
 use Rattle.redo_model.proofs.Bridge.{image_is}
 use Rattle.redo_laws.specs.Among.{is_in}
 use Rattle.redo_laws.proofs.space.Places.{in_contains, in_take, IsNumber, Segments, a_table}

@@ -1,35 +1,13 @@
 -- Where each slot is at home: in a formatted block of the table of its rows, or in a block of no table, and then it is
 -- vacant.
-use Rattle.std.proofs.Common.{◌≡◌, ◌⊎◌, ℕ, zero, suc, ◌≤◌, Bool, true, false, cond, not, ◌||◌, eqb, List, [], ◌∷◌, length, take, drop, get_or, Option, Some, None, refl, sym, ◌∙◌, ap, ap₂, subst, inl, inr}
-use Rattle.std.proofs.lemmas.Bool.{eqb-true, cond-false, true≢false, cases_Bool, and_parts, and_from, or_cases, or_parts, or_left, or_right, not-true}
-use Rattle.seg_base.specs.declared.shape.Shape.{Shape}
-use Rattle.seg_base.specs.declared.slot.Slot.{Slot}
-use Rattle.seg_base.specs.declared.slot.Writer.TheVariants.{By}
-use Rattle.seg_base.specs.Blocks.{new_slot}
-use Rattle.seg_base.specs.Room.{is_empty, writer_has_ended}
-use Rattle.seg_base.specs.Cleaning.{clean_slot}
-use Rattle.redo_record.specs.declared.record.Record.{Record}
-use Rattle.redo_record.specs.declared.part.RowPart.{RowPart}
-use Rattle.redo_record.specs.declared.row.BackRecord.{BackRecord}
-use Rattle.redo_model.specs.Effects.{Step, written, restored, part_addr}
-use Rattle.redo_model.specs.Ordinals.{txn_count, row_count}
-use Rattle.redo_model.specs.Transactions.{is_active, ended_in}
-use Rattle.redo_model.specs.Steps.{is_by, standing, newest_of}
-use Rattle.redo_model.specs.Slots.{is_place, placed_in, image}
-use Rattle.redo_model.specs.Versions.{Made, made_by, without, makers}
-use Rattle.redo_model.specs.AllowedRows.{taken_back}
+use Rattle.std.proofs.Common.{◌≡◌, ◌⊎◌, ℕ, zero, suc, ◌≤◌, Bool, true, false, cond, not, ◌||◌, eqb, List, [], ◌∷◌, length, take, drop, get_or, Option, Some, None, refl, sym, ◌∙◌, ap, ap₂, subst, inl, inr, eqb-true, true≢false}
+use Rattle.seg_words.proofs.Lemmas.{cond-false, cases_Bool, and_parts, and_from, or_cases, or_parts, or_left, or_right, not-true}
+use Rattle.seg_words.specs.Types.{Shape, Slot, By, new_slot, is_empty, writer_has_ended, clean_slot, list_all, is_reusable}
+use Rattle.redo_model.specs.Records.{Record, RowPart, BackRecord, Extend, FormatBlock, Lower, ExtendRecord, FormatBlockRecord, LowerRecord}
+use Rattle.redo_model.specs.Model.{Step, written, restored, part_addr, txn_count, row_count, is_active, ended_in, is_by, standing, newest_of, is_place, placed_in, image, Made, made_by, without, makers, taken_back, slots_of, is_vacant_block, Extent, extents_of, in_extent, extent_data, data_of, data_blocks, high_mark, is_formatted, is_vacant, kept_length, FormatAllowed, LowerAllowed}
 use Rattle.redo_laws.proofs.lists.Every.{Every}
 use Rattle.redo_laws.proofs.steps.OnTop.{is_named, off_named, head_named, OnTop}
 use Rattle.redo_laws.proofs.steps.Facts.{StatesOld, BegunBy, BackFits, HeadSettled}
-use Rattle.std.specs.List.{list_all}
-use Rattle.seg_base.specs.Room.{is_reusable}
-use Rattle.redo_record.specs.declared.record.Record.TheVariants.{Extend, FormatBlock, Lower}
-use Rattle.redo_record.specs.declared.space.ExtendRecord.{ExtendRecord}
-use Rattle.redo_record.specs.declared.space.FormatBlockRecord.{FormatBlockRecord}
-use Rattle.redo_record.specs.declared.space.LowerRecord.{LowerRecord}
-use Rattle.redo_model.specs.Blocks.{slots_of, is_vacant_block}
-use Rattle.redo_model.specs.Segments.{Extent, extents_of, in_extent, extent_data, data_of, data_blocks, high_mark, is_formatted, is_vacant, kept_length}
-use Rattle.redo_model.specs.AllowedTables.{FormatAllowed, LowerAllowed}
 use Rattle.redo_model.proofs.Bridge.{image_is}
 use Rattle.redo_laws.specs.Among.{is_in}
 use Rattle.redo_laws.specs.Homes.{row_table}

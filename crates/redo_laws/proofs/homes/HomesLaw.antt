@@ -1,7 +1,6 @@
 -- Slots are at home in a lawful list.
-use Rattle.std.proofs.Common.{sym, ◌∙◌, subst, inl, inr}
-use Rattle.std.proofs.lemmas.Bool.{true≢false}
-use Rattle.redo_model.specs.Segments.{IsRowBlock}
+use Rattle.std.proofs.Common.{sym, ◌∙◌, subst, inl, inr, true≢false}
+use Rattle.redo_model.specs.Model.{IsRowBlock}
 use Rattle.redo_laws.specs.Homes.{SlotsAreAtHome}
 use Rattle.redo_laws.proofs.space.Places.{segments, in_contains}
 use Rattle.redo_laws.proofs.homes.Homes.{released_vacant}

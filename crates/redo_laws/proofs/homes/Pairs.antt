@@ -1,24 +1,13 @@
 -- Heads and bodies name each other, in the images of every closed choice of what counts.
-use Rattle.std.proofs.Common.{◌≡◌, ◌⊎◌, ℕ, Bool, true, false, cond, eqb, List, Option, Some, None, refl, sym, ◌∙◌, ap, subst, inl, inr}
-use Rattle.std.proofs.lemmas.Bool.{eqb-true, cond-true, cond-false, true≢false, cases_Bool, eq-eqb, and_parts, and_from}
-use Rattle.seg_base.specs.declared.shape.Shape.{Shape}
-use Rattle.seg_base.specs.declared.slot.Kind.{Kind}
-use Rattle.seg_base.specs.declared.slot.Kind.TheVariants.{Empty, Row, Head, Body}
-use Rattle.seg_base.specs.declared.slot.Slot.{Slot}
-use Rattle.seg_base.specs.Room.{is_empty, writer_has_ended}
-use Rattle.redo_record.specs.declared.record.Record.{Record}
-use Rattle.redo_record.specs.declared.part.RowPart.{RowPart}
-use Rattle.redo_record.specs.declared.row.RowBody.{RowBody}
-use Rattle.redo_record.specs.declared.row.MoveRecord.{MoveRecord}
-use Rattle.redo_model.specs.Effects.{Effect, Adds, effect_of, written}
-use Rattle.redo_model.specs.Transactions.{ended_in}
-use Rattle.redo_model.specs.Slots.{is_place, placed_in, image}
-use Rattle.redo_model.specs.Lawful.{IsKindAllowed}
+use Rattle.std.proofs.Common.{◌≡◌, ◌⊎◌, ℕ, Bool, true, false, cond, eqb, List, Option, Some, None, refl, sym, ◌∙◌, ap, subst, inl, inr, eqb-true, true≢false, eq-eqb}
+use Rattle.seg_words.proofs.Lemmas.{cond-true, cond-false, cases_Bool, and_parts, and_from}
+use Rattle.seg_words.specs.Types.{Shape, Kind, Empty, Row, Head, Body, Slot, is_empty, writer_has_ended, Rowid}
+use Rattle.redo_model.specs.Records.{Record, RowPart, RowBody, MoveRecord, Insert, Update, Migrate, Return, Delete, Move}
+use Rattle.redo_model.specs.Model.{Effect, effect_of, written, ended_in, is_place, placed_in, image, IsKindAllowed, nothing, plain_row, head_to, body_of, with_bytes, at_place, txn_part, next_slot, IsMigrated, InsertAllowed, UpdateAllowed, MigratePlain, MigrateAgain, MigrateAllowed, ReturnAllowed, DeletePlain, DeleteMigrated, DeleteAllowed, move_part, MovePlain, MoveToBody, MoveMigrated, MoveAllowed}
+use Rattle.redo_model.specs.Effects.{Adds}
 use Rattle.redo_laws.proofs.lists.Every.{Every}
-use Rattle.seg_base.specs.declared.slot.Rowid.{Rowid}
-use Rattle.redo_record.specs.declared.record.Record.TheVariants.{Insert, Update, Migrate, Return, Delete, Move}
-use Rattle.redo_model.specs.AllowedRows.{nothing, plain_row, head_to, body_of, with_bytes, at_place, txn_part, next_slot, IsMigrated, InsertAllowed, UpdateAllowed, MigratePlain, MigrateAgain, MigrateAllowed, migrates_plain, migrates_again, ReturnAllowed, DeletePlain, DeleteMigrated, DeleteAllowed, deletes_plain, deletes_migrated}
-use Rattle.redo_model.specs.AllowedMoves.{move_part, MovePlain, MoveToBody, MoveMigrated, MoveAllowed, moves_plain, moves_to_body, moves_migrated}
+use Rattle.redo_model.specs.AllowedRows.{migrates_plain, migrates_again, deletes_plain, deletes_migrated}
+use Rattle.redo_model.specs.AllowedMoves.{moves_plain, moves_to_body, moves_migrated}
 use Rattle.redo_laws.proofs.allowed.Shapes.{target_reusable}
 use Rattle.redo_laws.proofs.allowed.AllKinds.{target_apart}
 

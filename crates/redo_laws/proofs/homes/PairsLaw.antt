@@ -1,31 +1,16 @@
 -- Heads and bodies name each other in a lawful list.
-use Rattle.std.proofs.Common.{◌≡◌, ℕ, zero, suc, Bool, true, false, cond, not, eqb, List, [], ◌∷◌, Option, Some, None, refl, sym, ◌∙◌, ap, subst, inl, inr}
-use Rattle.std.proofs.lemmas.Bool.{eqb-true, cond-true, true≢false, cases_Bool, eq-eqb, and_from, and_right, or_left, or_right}
-use Rattle.seg_base.specs.declared.shape.Shape.{Shape}
-use Rattle.seg_base.specs.declared.slot.Kind.{Kind}
-use Rattle.seg_base.specs.declared.slot.Kind.TheVariants.{Empty, Row, Head, Body}
-use Rattle.seg_base.specs.declared.slot.Slot.{Slot}
-use Rattle.seg_base.specs.Room.{is_empty}
-use Rattle.seg_base.specs.Cleaning.{number_of_writer, as_told, clean_slot}
-use Rattle.redo_record.specs.declared.record.Record.{Record}
-use Rattle.redo_record.specs.declared.part.RowPart.{RowPart}
-use Rattle.redo_record.specs.declared.row.BackRecord.{BackRecord}
-use Rattle.redo_model.specs.Effects.{Step, Effect, Still, Formats, Adds, TakesBack, Cleans, effect_of, written, restored, part_addr}
-use Rattle.redo_model.specs.Ordinals.{txn_count}
-use Rattle.redo_model.specs.Transactions.{is_active}
-use Rattle.redo_model.specs.Steps.{is_addr, without_step, standing_steps, standing}
-use Rattle.redo_model.specs.Slots.{is_place, placed_in, changed_image, image}
-use Rattle.redo_model.specs.Versions.{Made, made_by, without, changed_makers, makers, first_counted}
-use Rattle.redo_model.specs.AllowedRows.{taken_back}
-use Rattle.redo_model.specs.Lawful.{IsKindAllowed, AreAllowed}
+use Rattle.std.proofs.Common.{◌≡◌, ℕ, zero, suc, Bool, true, false, cond, not, eqb, List, [], ◌∷◌, Option, Some, None, refl, sym, ◌∙◌, ap, subst, inl, inr, eqb-true, true≢false, eq-eqb}
+use Rattle.seg_words.proofs.Lemmas.{cond-true, cases_Bool, and_from, and_right, or_left, or_right}
+use Rattle.seg_words.specs.Types.{Shape, Kind, Empty, Row, Head, Body, Slot, is_empty, number_of_writer, as_told, clean_slot}
+use Rattle.redo_model.specs.Records.{Record, RowPart, BackRecord, FormatBlock}
+use Rattle.redo_model.specs.Model.{Step, Effect, effect_of, written, restored, part_addr, txn_count, is_active, is_addr, without_step, standing_steps, standing, is_place, placed_in, changed_image, image, Made, made_by, without, changed_makers, makers, first_counted, taken_back, IsKindAllowed, AreAllowed}
+use Rattle.redo_model.specs.Effects.{Still, Formats, Adds, TakesBack, Cleans}
 use Rattle.redo_laws.proofs.lists.Every.{Every, every-map}
 use Rattle.redo_laws.proofs.steps.OnTop.{is_named, addr_self, OnTop}
-use Rattle.redo_laws.proofs.steps.Facts.{Counted, StepFits, BackFits, EffectFits}
+use Rattle.redo_laws.proofs.steps.Facts.{Counted, StepFits, BackFits, EffectFits, IsClosed}
 use Rattle.redo_laws.specs.Homes.{Names, HeadsNameBodies}
-use Rattle.redo_laws.proofs.steps.Facts.{IsClosed}
 use Rattle.redo_laws.proofs.numbers.Known.{turn}
 use Rattle.redo_laws.proofs.steps.Held.{Held, own_newest, Tops, tops, effect_held}
-use Rattle.redo_record.specs.declared.record.Record.TheVariants.{FormatBlock}
 use Rattle.redo_laws.proofs.spread.Spread.{good, head_settled, but, closed_but, counted_but, closed_turn, head_over}
 use Rattle.redo_laws.proofs.spread.Stays.{writes_stay, restores_stay}
 use Rattle.redo_laws.proofs.space.Places.{format_first}

@@ -1,18 +1,10 @@
 -- The images of a slot are a chain through undo.
-use Rattle.std.proofs.Common.{◌≡◌, ℕ, suc, Bool, true, false, cond, not, eqb, List, [], ◌∷◌, map, filter, refl, sym, ◌∙◌, ap, inl, inr}
-use Rattle.std.proofs.lemmas.Bool.{eqb-true, true≢false, and_parts}
-use Rattle.seg_base.specs.declared.slot.Slot.{Slot}
-use Rattle.seg_base.specs.declared.slot.UndoAddr.{UndoAddr}
-use Rattle.seg_base.specs.declared.slot.Writer.{Writer}
-use Rattle.redo_record.specs.declared.record.Record.{Record}
-use Rattle.redo_record.specs.declared.part.RowPart.{RowPart}
-use Rattle.redo_model.specs.Effects.{Step, Effect, Still, Formats, Adds, TakesBack, Cleans, effect_of, part_addr}
-use Rattle.redo_model.specs.Ordinals.{txn_count}
-use Rattle.redo_model.specs.Transactions.{is_active}
-use Rattle.redo_model.specs.Steps.{is_addr, without_step, standing_steps, standing}
-use Rattle.redo_model.specs.Slots.{is_place, image}
-use Rattle.redo_model.specs.Versions.{Made, made_by, without, changed_makers, makers}
-use Rattle.redo_model.specs.Undo.{needed_on}
+use Rattle.std.proofs.Common.{◌≡◌, ℕ, suc, Bool, true, false, cond, not, eqb, List, [], ◌∷◌, map, filter, refl, sym, ◌∙◌, ap, inl, inr, eqb-true, true≢false}
+use Rattle.seg_words.proofs.Lemmas.{and_parts}
+use Rattle.seg_words.specs.Types.{Slot, UndoAddr, Writer}
+use Rattle.redo_model.specs.Records.{Record, RowPart}
+use Rattle.redo_model.specs.Model.{Step, Effect, effect_of, part_addr, txn_count, is_active, is_addr, without_step, standing_steps, standing, is_place, image, Made, made_by, without, changed_makers, makers, needed_on}
+use Rattle.redo_model.specs.Effects.{Still, Formats, Adds, TakesBack, Cleans}
 use Rattle.redo_laws.specs.Chain.{IsChain, IsStatedIn, IsStated, EachMade, followed, IsAmong, SlotsAreChains}
 use Rattle.redo_laws.proofs.links.Links.{Linked}
 use Rattle.redo_laws.proofs.spread.Whole.{whole}

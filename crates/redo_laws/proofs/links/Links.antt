@@ -1,22 +1,10 @@
 -- Each image of a slot is linked to the record that made it: by its undo address, its writer and its row.
-use Rattle.std.proofs.Common.{◌≡◌, ◌⊎◌, ℕ, zero, suc, ◌≤◌, Bool, true, false, cond, not, eqb, List, [], ◌∷◌, length, Option, Some, None, refl, sym, ◌∙◌, ap, ap₂, subst, arith, inl, inr, le_trans}
-use Rattle.std.proofs.lemmas.Bool.{eqb-true, true≢false, cases_Bool, and_parts, not-true}
-use Rattle.seg_base.specs.declared.slot.Slot.{Slot}
-use Rattle.seg_base.specs.declared.slot.UndoAddr.{UndoAddr}
-use Rattle.seg_base.specs.declared.slot.Writer.{Writer}
-use Rattle.seg_base.specs.declared.slot.Writer.TheVariants.{By, At}
-use Rattle.seg_base.specs.Blocks.{new_slot}
-use Rattle.seg_base.specs.Room.{is_empty, writer_has_ended}
-use Rattle.seg_base.specs.Cleaning.{number_of, number_of_writer, as_told, clean_slot}
-use Rattle.redo_record.specs.declared.record.Record.{Record}
-use Rattle.redo_record.specs.declared.part.RowPart.{RowPart}
-use Rattle.redo_model.specs.Effects.{Step, Effect, Still, Formats, Adds, TakesBack, Cleans, effect_of, written, restored, part_addr}
-use Rattle.redo_model.specs.Ordinals.{txn_count}
-use Rattle.redo_model.specs.Transactions.{is_active}
-use Rattle.redo_model.specs.Steps.{is_addr, without_step, standing_steps, standing}
-use Rattle.redo_model.specs.Slots.{is_place, placed_in, changed_image, image}
-use Rattle.redo_model.specs.Versions.{Made, made_by, without, changed_makers, makers}
-use Rattle.redo_model.specs.AllowedRows.{taken_back}
+use Rattle.std.proofs.Common.{◌≡◌, ◌⊎◌, ℕ, zero, suc, ◌≤◌, Bool, true, false, cond, not, eqb, List, [], ◌∷◌, length, Option, Some, None, refl, sym, ◌∙◌, ap, ap₂, subst, arith, inl, inr, le_trans, eqb-true, true≢false}
+use Rattle.seg_words.proofs.Lemmas.{cases_Bool, and_parts, not-true}
+use Rattle.seg_words.specs.Types.{Slot, UndoAddr, Writer, By, At, new_slot, is_empty, writer_has_ended, number_of, number_of_writer, as_told, clean_slot}
+use Rattle.redo_model.specs.Records.{Record, RowPart}
+use Rattle.redo_model.specs.Model.{Step, Effect, effect_of, written, restored, part_addr, txn_count, is_active, is_addr, without_step, standing_steps, standing, is_place, placed_in, changed_image, image, Made, made_by, without, changed_makers, makers, taken_back}
+use Rattle.redo_model.specs.Effects.{Still, Formats, Adds, TakesBack, Cleans}
 use Rattle.redo_laws.proofs.lists.Every.{Every}
 use Rattle.redo_laws.proofs.steps.OnTop.{OnTop}
 use Rattle.redo_laws.proofs.steps.Facts.{StatesOld, BegunBy, HeadSettled, EffectFits}

@@ -1,25 +1,10 @@
 -- What writers tell of whether their images count.
-use Rattle.std.proofs.Common.{◌≡◌, ◌⊎◌, ℕ, zero, suc, ◌≤◌, Bool, true, false, cond, not, ◌&&◌, ◌||◌, eqb, ltb, leb, List, [], ◌∷◌, Option, Some, None, refl, sym, ◌∙◌, ap, ap₂, subst, arith, inl, inr, le_trans}
-use Rattle.std.proofs.lemmas.Bool.{true≢false, cases_Bool, eqb-true, ne_eqb, eq-eqb, and_parts, and_left, or_cases, or_right, le-leb}
-use Rattle.seg_base.specs.declared.shape.Shape.{Shape}
-use Rattle.seg_base.specs.declared.slot.Slot.{Slot}
-use Rattle.seg_base.specs.declared.slot.UndoAddr.{UndoAddr}
-use Rattle.seg_base.specs.declared.slot.Writer.{Writer}
-use Rattle.seg_base.specs.declared.slot.Writer.TheVariants.{By, At}
-use Rattle.seg_base.specs.Blocks.{new_slot}
-use Rattle.seg_base.specs.Cleaning.{number_of, number_of_writer, as_told, clean_slot}
-use Rattle.redo_record.specs.declared.record.Record.{Record}
-use Rattle.redo_record.specs.declared.record.Record.TheVariants.{Begin, Commit, Ended, Clean}
-use Rattle.redo_record.specs.declared.part.RowPart.{RowPart}
-use Rattle.redo_model.specs.Effects.{Step, Effect, Still, Formats, Adds, TakesBack, Cleans, effect_of, written, restored, part_addr}
-use Rattle.redo_model.specs.Ordinals.{commit_count, txn_count}
-use Rattle.redo_model.specs.Transactions.{is_active, has_begun, commit_number, is_committed_by, has_rolled_back, is_forgotten}
-use Rattle.redo_model.specs.Steps.{is_by, standing_steps, standing, newest_of}
-use Rattle.redo_model.specs.Slots.{is_place, placed_in, changed_image, image}
-use Rattle.redo_model.specs.Versions.{Made, made_by, without, changed_makers, makers, counts}
-use Rattle.redo_model.specs.AllowedTransactions.{number_or_zero, stated_number}
-use Rattle.redo_model.specs.AllowedRows.{taken_back}
-use Rattle.redo_model.specs.Lawful.{IsKindAllowed, AreAllowed}
+use Rattle.std.proofs.Common.{◌≡◌, ◌⊎◌, ℕ, zero, suc, ◌≤◌, Bool, true, false, cond, not, ◌&&◌, ◌||◌, eqb, ltb, leb, List, [], ◌∷◌, Option, Some, None, refl, sym, ◌∙◌, ap, ap₂, subst, arith, inl, inr, le_trans, true≢false, eqb-true, ne_eqb, eq-eqb, le-leb}
+use Rattle.seg_words.proofs.Lemmas.{cases_Bool, and_parts, and_left, or_cases, or_right}
+use Rattle.seg_words.specs.Types.{Shape, Slot, UndoAddr, Writer, By, At, new_slot, number_of, number_of_writer, as_told, clean_slot}
+use Rattle.redo_model.specs.Records.{Record, Begin, Commit, Ended, Clean, RowPart}
+use Rattle.redo_model.specs.Model.{Step, Effect, effect_of, written, restored, part_addr, commit_count, txn_count, is_active, has_begun, commit_number, is_committed_by, has_rolled_back, is_forgotten, is_by, standing_steps, standing, newest_of, is_place, placed_in, changed_image, image, Made, made_by, without, changed_makers, makers, counts, number_or_zero, stated_number, taken_back, IsKindAllowed, AreAllowed}
+use Rattle.redo_model.specs.Effects.{Still, Formats, Adds, TakesBack, Cleans}
 use Rattle.redo_laws.specs.Chain.{EachMade}
 use Rattle.redo_laws.specs.Views.{IsOpen}
 use Rattle.redo_laws.specs.Writers.{EachTells, TxnTells, WritersAreTold}

@@ -1,6 +1,6 @@
 -- Facts of Bool that several proofs need.
-use Rattle.std.proofs.Common.{◌≡◌, Bool, true, false, ◌||◌, sym, ◌∙◌, ap₂, inl, inr}
-use Rattle.std.proofs.lemmas.Bool.{true≢false, cases_Bool}
+use Rattle.std.proofs.Common.{◌≡◌, Bool, true, false, ◌||◌, sym, ◌∙◌, ap₂, inl, inr, true≢false}
+use Rattle.seg_words.proofs.Lemmas.{cases_Bool}
 
 -- a test can't come out both ways
 pub clash : (v : Bool) → v ≡ true → v ≡ false → ⊥

@@ -1,6 +1,6 @@
 -- A fact of each element of a list, and filters.
 use Rattle.std.proofs.Common.{◌≡◌, Bool, true, false, cond, List, [], ◌∷◌, filter, refl, ◌∙◌, ap, inl, inr}
-use Rattle.std.proofs.lemmas.Bool.{cond-true, cases_Bool}
+use Rattle.seg_words.proofs.Lemmas.{cond-true, cases_Bool}
 
 abbrev pub Every : {A : Type 0} → (A → Type 0) → List A → Type 0
 Every P [] = Unit {0}

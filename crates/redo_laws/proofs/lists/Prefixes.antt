@@ -1,8 +1,9 @@
 -- The first records of a list.
-use Rattle.std.proofs.Common.{◌≡◌, ℕ, suc, ◌≤◌, ltb, List, [], ◌∷◌, length, refl, sym, ◌∙◌, ap, subst, arith, inl, inr, le_trans}
-use Rattle.std.proofs.lemmas.Bool.{cond-true, cond-false, cases_Bool, le-ltb, lt-ltb, ltb-true, ltb-false}
-use Rattle.redo_record.specs.declared.record.Record.{Record}
-use Rattle.redo_model.specs.Lists.{prefix, Extends, same, more}
+use Rattle.std.proofs.Common.{◌≡◌, ℕ, suc, ◌≤◌, ltb, List, [], ◌∷◌, length, refl, sym, ◌∙◌, ap, subst, arith, inl, inr, le_trans, le-ltb, lt-ltb, ltb-true, ltb-false}
+use Rattle.seg_words.proofs.Lemmas.{cond-true, cond-false, cases_Bool}
+use Rattle.redo_model.specs.Records.{Record}
+use Rattle.redo_model.specs.Model.{prefix, Extends}
+use Rattle.redo_model.specs.Lists.{same, more}
 use Rattle.redo_laws.specs.Prefixes.{PrefixesStay}
 
 pub prefix_all : (R : List Record) (n : ℕ) → length R ≤ n → prefix R n ≡ R

@@ -1,8 +1,9 @@
 -- Records after the first n of a list.
-use Rattle.std.proofs.Common.{◌≡◌, ℕ, ◌≤◌, Bool, false, ◌||◌, List, [], ◌∷◌, length, refl, sym, ◌∙◌}
-use Rattle.std.proofs.lemmas.Bool.{cond-true, cond-false, le-ltb, lt-ltb, or_parts}
-use Rattle.redo_record.specs.declared.record.Record.{Record}
-use Rattle.redo_model.specs.Lists.{Extends, same, more}
+use Rattle.std.proofs.Common.{◌≡◌, ℕ, ◌≤◌, Bool, false, ◌||◌, List, [], ◌∷◌, length, refl, sym, ◌∙◌, le-ltb, lt-ltb}
+use Rattle.seg_words.proofs.Lemmas.{cond-true, cond-false, or_parts}
+use Rattle.redo_model.specs.Records.{Record}
+use Rattle.redo_model.specs.Model.{Extends}
+use Rattle.redo_model.specs.Lists.{same, more}
 use Rattle.redo_laws.specs.Since.{any_since}
 use Rattle.redo_laws.proofs.lists.Prefixes.{extends_length}
 

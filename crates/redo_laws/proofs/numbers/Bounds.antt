@@ -1,22 +1,10 @@
 -- How large the numbers of an allowed record are.
-use Rattle.std.proofs.Common.{◌≡◌, ℕ, zero, suc, ◌+◌, ◌-◌, ◌*◌, ◌<◌, ◌≤◌, max, Bool, true, false, cond, not, eqb, leb, List, [], ◌∷◌, ◌++◌, length, Option, Some, None, find, refl, ◌∙◌, ap, arith, inl, inr, length-append, le_trans, mul-le-mul, zero-add}
-use Rattle.std.proofs.lemmas.Bool.{cond_both, eq-eqb, and_parts, leb-true, or_left, or_right}
-use Rattle.std.proofs.lemmas.List.Sums.{prefix_len-le-length, sum_by-append}
-use Rattle.seg_base.specs.declared.class.Class.{Class as BlockClass}
-use Rattle.seg_base.specs.declared.class.Class.TheVariants.{Unformatted, Full, Fs1, Fs2, Fs3, Fs4}
-use Rattle.seg_base.specs.declared.shape.Shape.{Shape}
-use Rattle.seg_base.specs.declared.slot.Writer.{Writer}
-use Rattle.seg_base.specs.Classes.{class_code}
-use Rattle.seg_base.specs.Places.{first_block, is_extent, head_blocks, is_shape}
-use Rattle.redo_record.specs.declared.record.Record.{Record}
-use Rattle.redo_record.specs.declared.record.Record.TheVariants.{Reuse}
-use Rattle.redo_record.specs.declared.part.RowPart.{RowPart}
-use Rattle.redo_model.specs.Effects.{Effect, Adds, effect_of}
-use Rattle.redo_model.specs.Ordinals.{count_of, is_commit, is_insert, is_begin, is_lower}
-use Rattle.redo_model.specs.Segments.{Extent, extents_of, blocks_from, data_of, data_blocks, is_formatted, has_extent, extent_at, block_in, index_of, group_start}
-use Rattle.redo_model.specs.Kept.{kept_class, code_of, good_code, best_of, best_in_group, best_in_l2, best_of_found, best_in_l1}
-use Rattle.redo_model.specs.Undo.{Undone, undone_after, emptied_by, parts_size, undone, undo_parts, undo_used, current_undo, undo_sequence, has_holder, ring_after, next_undo}
-use Rattle.redo_model.specs.Lawful.{AreAllowed}
+use Rattle.std.proofs.Common.{◌≡◌, ℕ, zero, suc, ◌+◌, ◌-◌, ◌*◌, ◌<◌, ◌≤◌, max, Bool, true, false, cond, not, eqb, leb, List, [], ◌∷◌, ◌++◌, length, Option, Some, None, find, refl, ◌∙◌, ap, arith, inl, inr, length-append, le_trans, mul-le-mul, zero-add, eq-eqb, leb-true}
+use Rattle.seg_words.proofs.Lemmas.{cond_both, and_parts, or_left, or_right, prefix_len-le-length, sum_by-append}
+use Rattle.seg_words.specs.Types.{Class as BlockClass, Unformatted, Full, Fs1, Fs2, Fs3, Fs4, Shape, Writer, class_code, first_block, is_extent, head_blocks, is_shape}
+use Rattle.redo_model.specs.Records.{Record, Reuse, RowPart}
+use Rattle.redo_model.specs.Model.{Effect, effect_of, count_of, is_commit, is_insert, is_begin, is_lower, Extent, extents_of, blocks_from, data_of, data_blocks, is_formatted, has_extent, extent_at, block_in, index_of, group_start, kept_class, code_of, good_code, best_of, best_in_group, best_in_l2, best_of_found, best_in_l1, Undone, undone_after, emptied_by, parts_size, undone, undo_parts, undo_used, current_undo, undo_sequence, has_holder, ring_after, next_undo, AreAllowed}
+use Rattle.redo_model.specs.Effects.{Adds}
 use Rattle.redo_laws.specs.Among.{is_in}
 use Rattle.redo_laws.specs.Short.{NumbersAreShort}
 use Rattle.redo_laws.proofs.lists.Every.{Every}

@@ -1,12 +1,9 @@
 -- What is known of transactions in a lawful list.
-use Rattle.std.proofs.Common.{◌≡◌, ℕ, suc, ◌<◌, ◌≤◌, Bool, true, false, not, ◌&&◌, ◌||◌, eqb, ltb, List, [], ◌∷◌, refl, sym, subst, arith, ◌⊎◌, inl, inr, le_refl}
-use Rattle.std.proofs.lemmas.Bool.{eqb-true, true≢false, and_parts, or_cases}
-use Rattle.seg_base.specs.declared.shape.Shape.{Shape}
-use Rattle.redo_record.specs.declared.record.Record.{Record}
-use Rattle.redo_model.specs.Ordinals.{commit_count, txn_count}
-use Rattle.redo_model.specs.Transactions.{is_active, is_committed_by}
-use Rattle.redo_model.specs.Lawful.{IsKindAllowed, AreAllowed}
-use Rattle.redo_record.specs.declared.record.Record.TheVariants.{Begin, Commit, Ended}
+use Rattle.std.proofs.Common.{◌≡◌, ℕ, suc, ◌<◌, ◌≤◌, Bool, true, false, not, ◌&&◌, ◌||◌, eqb, ltb, List, [], ◌∷◌, refl, sym, subst, arith, ◌⊎◌, inl, inr, le_refl, eqb-true, true≢false}
+use Rattle.seg_words.proofs.Lemmas.{and_parts, or_cases}
+use Rattle.seg_words.specs.Types.{Shape}
+use Rattle.redo_model.specs.Records.{Record, Begin, Commit, Ended}
+use Rattle.redo_model.specs.Model.{commit_count, txn_count, is_active, is_committed_by, IsKindAllowed, AreAllowed}
 
 -- what is known of a transaction number in a lawful list: whether it is active and has committed, and how many have begun
 pub record Known (active committed : Bool) (t begun : ℕ) : Type 0 where

@@ -1,12 +1,10 @@
 -- Each number is given once: what is given is one more than the count of those given before.
-use Rattle.std.proofs.Common.{◌≡◌, ℕ, suc, Bool, true, false, eqb, List, [], ◌∷◌, Option, Some, None, refl, sym, ◌∙◌, ap, arith, inl, inr}
-use Rattle.std.proofs.lemmas.Bool.{cond_both, cond-true, cond-false, cases_Bool, eqb-true, eqb-false, ne_eqb}
-use Rattle.seg_base.specs.declared.shape.Shape.{Shape}
-use Rattle.redo_record.specs.declared.record.Record.{Record}
-use Rattle.redo_record.specs.declared.record.Record.TheVariants.{Insert, Begin, Commit, Move, Lower}
-use Rattle.redo_model.specs.Ordinals.{is_commit, is_insert, is_begin, is_lower, count_of}
-use Rattle.redo_model.specs.AllowedMoves.{MoveAllowed, moves_plain, moves_to_body, moves_migrated}
-use Rattle.redo_model.specs.Lawful.{IsKindAllowed}
+use Rattle.std.proofs.Common.{◌≡◌, ℕ, suc, Bool, true, false, eqb, List, [], ◌∷◌, Option, Some, None, refl, sym, ◌∙◌, ap, arith, inl, inr, eqb-true, ne_eqb}
+use Rattle.seg_words.proofs.Lemmas.{cond_both, cond-true, cond-false, cases_Bool, eqb-false}
+use Rattle.seg_words.specs.Types.{Shape}
+use Rattle.redo_model.specs.Records.{Record, Insert, Begin, Commit, Move, Lower}
+use Rattle.redo_model.specs.Model.{is_commit, is_insert, is_begin, is_lower, count_of, MoveAllowed, IsKindAllowed}
+use Rattle.redo_model.specs.AllowedMoves.{moves_plain, moves_to_body, moves_migrated}
 use Rattle.redo_laws.specs.Numbers.{row_given, txn_given, commit_given, lowering_given, one_if, times_given, GivenOnce, NumbersAreGivenOnce, NumbersAreGivenInOrder}
 
 -- a record of the kind gives the next number, and no other record gives one

@@ -1,16 +1,10 @@
 -- The table of transactions in a lawful list: whose entries are taken.
-use Rattle.std.proofs.Common.{◌≡◌, ◌⊎◌, ℕ, suc, ◌<◌, ◌≤◌, Bool, true, false, cond, not, ◌||◌, eqb, List, [], ◌∷◌, Option, Some, None, refl, sym, ◌∙◌, ap, subst, arith, inl, inr, le_trans}
-use Rattle.std.proofs.lemmas.Bool.{cond-true, cond-false, cases_Bool, eqb-true, eqb-false, ne_eqb, eq-eqb, true≢false, or_cases, or_parts, or_left, or_right, and_parts, and_from, and_left, and_right}
-use Rattle.seg_base.specs.declared.shape.Shape.{Shape}
-use Rattle.redo_record.specs.declared.record.Record.{Record}
-use Rattle.redo_record.specs.declared.record.Record.TheVariants.{Begin, Commit, Ended, Move}
-use Rattle.redo_record.specs.declared.transaction.BeginRecord.{BeginRecord}
-use Rattle.redo_record.specs.declared.transaction.CommitRecord.{CommitRecord}
-use Rattle.redo_record.specs.declared.transaction.EndedRecord.{EndedRecord}
-use Rattle.redo_model.specs.Ordinals.{commit_count, txn_count}
-use Rattle.redo_model.specs.Transactions.{is_active, has_begun, commit_number, has_rolled_back, control_number, entry_of, user_of, is_entry, is_forgotten}
-use Rattle.redo_model.specs.AllowedTransactions.{EntryState, Unused, InUse, Committed, RolledBack, state_of_user, state_when_over, entry_state, TakesEntry, takes_unused, takes_rolled_back, takes_committed, BeginAllowed, CommitAllowed}
-use Rattle.redo_model.specs.Lawful.{IsKindAllowed, AreAllowed}
+use Rattle.std.proofs.Common.{◌≡◌, ◌⊎◌, ℕ, suc, ◌<◌, ◌≤◌, Bool, true, false, cond, not, ◌||◌, eqb, List, [], ◌∷◌, Option, Some, None, refl, sym, ◌∙◌, ap, subst, arith, inl, inr, le_trans, eqb-true, ne_eqb, eq-eqb, true≢false}
+use Rattle.seg_words.proofs.Lemmas.{cond-true, cond-false, cases_Bool, eqb-false, or_cases, or_parts, or_left, or_right, and_parts, and_from, and_left, and_right}
+use Rattle.seg_words.specs.Types.{Shape}
+use Rattle.redo_model.specs.Records.{Record, Begin, Commit, Ended, Move, BeginRecord, CommitRecord, EndedRecord}
+use Rattle.redo_model.specs.Model.{commit_count, txn_count, is_active, has_begun, commit_number, has_rolled_back, control_number, entry_of, user_of, is_entry, is_forgotten, EntryState, state_of_user, state_when_over, entry_state, TakesEntry, BeginAllowed, CommitAllowed, IsKindAllowed, AreAllowed}
+use Rattle.redo_model.specs.AllowedTransactions.{Unused, InUse, Committed, RolledBack, takes_unused, takes_rolled_back, takes_committed}
 use Rattle.redo_laws.specs.Forgotten.{ForgottenHavePassed}
 
 pub record TxnTable (R : List Record) : Type 0 where

@@ -1,29 +1,14 @@
 -- What an allowed record states can be put into its blocks.
-use Rattle.std.proofs.Common.{◌≡◌, ◌⊎◌, ℕ, zero, suc, ◌<◌, ◌≤◌, true, false, cond, leb, List, [], ◌∷◌, length, Option, Some, None, refl, sym, ◌∙◌, ap, subst, arith, inl, inr}
-use Rattle.std.proofs.lemmas.Bool.{cases_Bool, leb-true, leb-false, cases_order}
-use Rattle.seg_base.specs.declared.shape.Shape.{Shape}
-use Rattle.seg_base.specs.declared.slot.Slot.{Slot}
-use Rattle.seg_base.specs.declared.slot.Writer.{Writer}
-use Rattle.seg_base.specs.declared.slot.Writer.TheVariants.{By, At}
-use Rattle.redo_record.specs.declared.record.Record.{Record}
-use Rattle.redo_record.specs.declared.part.RowPart.{RowPart}
-use Rattle.redo_record.specs.declared.row.BackRecord.{BackRecord}
-use Rattle.redo_model.specs.Effects.{Step, Effect, Still, Formats, Adds, TakesBack, Cleans, effect_of}
-use Rattle.redo_model.specs.Ordinals.{txn_count}
-use Rattle.redo_model.specs.Transactions.{is_active, ended_in}
-use Rattle.redo_model.specs.Steps.{is_by, standing_steps, standing, newest_of}
-use Rattle.redo_model.specs.Slots.{image}
-use Rattle.redo_model.specs.Versions.{without, makers}
-use Rattle.redo_model.specs.AllowedRows.{taken_back}
-use Rattle.redo_model.specs.Lawful.{AreAllowed}
+use Rattle.std.proofs.Common.{◌≡◌, ◌⊎◌, ℕ, zero, suc, ◌<◌, ◌≤◌, true, false, cond, leb, List, [], ◌∷◌, length, Option, Some, None, refl, sym, ◌∙◌, ap, subst, arith, inl, inr, leb-true, leb-false}
+use Rattle.seg_words.proofs.Lemmas.{cases_Bool, cases_order}
+use Rattle.seg_words.specs.Types.{Shape, Slot, Writer, By, At, row_size}
+use Rattle.redo_model.specs.Records.{Record, RowPart, BackRecord}
+use Rattle.redo_model.specs.Model.{Step, Effect, effect_of, txn_count, is_active, ended_in, is_by, standing_steps, standing, newest_of, image, without, makers, taken_back, AreAllowed, slot_count, entry_count, block_of}
+use Rattle.redo_model.specs.Effects.{Still, Formats, Adds, TakesBack, Cleans}
 use Rattle.redo_laws.proofs.lists.Every.{Every, every-map, every-filter}
 use Rattle.redo_laws.proofs.steps.OnTop.{head_named, OnTop}
-use Rattle.redo_laws.proofs.steps.Facts.{StatesOld, BackFits}
-use Rattle.redo_laws.proofs.steps.Facts.{EffectFits as NeedsMet}
-use Rattle.seg_base.specs.Room.{row_size}
+use Rattle.redo_laws.proofs.steps.Facts.{StatesOld, BackFits, EffectFits as NeedsMet}
 use Rattle.seg_base.proofs.Rooms.{slot_to_use-le-length, entry_for-within, takes_is}
-use Rattle.redo_model.specs.Slots.{slot_count, entry_count}
-use Rattle.redo_model.specs.Blocks.{block_of}
 use Rattle.redo_model.proofs.Bridge.{count_is, entry_count_is}
 use Rattle.redo_laws.specs.Fit.{EachFits, EachBackFits, EffectFits, RecordsFitBlocks}
 use Rattle.redo_laws.proofs.steps.Held.{Held, own_newest}

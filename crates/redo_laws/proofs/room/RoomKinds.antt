@@ -1,32 +1,13 @@
 -- The room that each kind of row record and Move takes in its blocks.
-use Rattle.std.proofs.Common.{◌≡◌, ◌⊎◌, ℕ, ◌<◌, ◌≤◌, true, false, ◌&&◌, leb, List, [], length, take, Some, None, find, refl, sym, ◌∙◌, ap, subst, arith, inl, inr, le_refl}
-use Rattle.std.proofs.lemmas.Bool.{cond-true, true≢false, cases_Bool, and_parts, leb-true, leb-false}
-use Rattle.seg_base.specs.declared.shape.Shape.{Shape}
-use Rattle.seg_base.specs.declared.slot.Kind.{Kind}
-use Rattle.seg_base.specs.declared.slot.Kind.TheVariants.{Empty, Row, Head, Body}
-use Rattle.seg_base.specs.declared.slot.Slot.{Slot}
-use Rattle.seg_base.specs.declared.slot.Writer.{Writer}
-use Rattle.seg_base.specs.declared.slot.Writer.TheVariants.{By, At}
-use Rattle.seg_base.specs.Room.{is_empty, writer_has_ended}
-use Rattle.redo_record.specs.declared.record.Record.{Record}
-use Rattle.redo_record.specs.declared.part.RowPart.{RowPart}
-use Rattle.redo_record.specs.declared.row.RowBody.{RowBody}
-use Rattle.redo_record.specs.declared.row.MoveRecord.{MoveRecord}
-use Rattle.redo_model.specs.Effects.{Step, Effect, Adds, effect_of, row_step, move_step}
-use Rattle.redo_model.specs.Transactions.{ended_in}
-use Rattle.redo_model.specs.Tables.{holds_row}
-use Rattle.redo_model.specs.Slots.{image}
-use Rattle.redo_model.specs.Lawful.{IsKindAllowed}
+use Rattle.std.proofs.Common.{◌≡◌, ◌⊎◌, ℕ, ◌<◌, ◌≤◌, true, false, ◌&&◌, leb, List, [], length, take, Some, None, find, refl, sym, ◌∙◌, ap, subst, arith, inl, inr, le_refl, true≢false, leb-true, leb-false}
+use Rattle.seg_words.proofs.Lemmas.{cond-true, cases_Bool, and_parts}
+use Rattle.seg_words.specs.Types.{Shape, Kind, Empty, Row, Head, Body, Slot, Writer, By, At, is_empty, writer_has_ended, Taker, Open, Shrink, row_size, entry_for, takes, fits}
+use Rattle.redo_model.specs.Records.{Record, RowPart, RowBody, MoveRecord, Insert, Update, Migrate, Return, Delete, Move}
+use Rattle.redo_model.specs.Model.{Step, Effect, effect_of, row_step, move_step, ended_in, holds_row, image, IsKindAllowed, slot_count, block_of, takes_row, data_blocks, is_formatted, position, pctfree_of, nothing, plain_row, head_to, body_of, with_bytes, at_place, txn_part, next_slot, InsertAllowed, UpdateAllowed, MigratePlain, MigrateAgain, MigrateAllowed, ReturnAllowed, DeletePlain, DeleteMigrated, DeleteAllowed, move_part, MovePlain, MoveToBody, MoveMigrated, MoveAllowed}
+use Rattle.redo_model.specs.Effects.{Adds}
 use Rattle.redo_laws.proofs.lists.Every.{Every}
-use Rattle.seg_base.specs.declared.slot.Taker.{Taker}
-use Rattle.seg_base.specs.declared.slot.Taker.TheVariants.{Open, Shrink}
-use Rattle.seg_base.specs.Room.{row_size, entry_for, takes, fits}
-use Rattle.redo_record.specs.declared.record.Record.TheVariants.{Insert, Update, Migrate, Return, Delete, Move}
-use Rattle.redo_model.specs.Slots.{slot_count}
-use Rattle.redo_model.specs.Blocks.{block_of, takes_row}
-use Rattle.redo_model.specs.Segments.{data_blocks, is_formatted, position, pctfree_of}
-use Rattle.redo_model.specs.AllowedRows.{nothing, plain_row, head_to, body_of, with_bytes, at_place, txn_part, next_slot, InsertAllowed, UpdateAllowed, MigratePlain, MigrateAgain, MigrateAllowed, migrates_plain, migrates_again, ReturnAllowed, DeletePlain, DeleteMigrated, DeleteAllowed, deletes_plain, deletes_migrated}
-use Rattle.redo_model.specs.AllowedMoves.{move_part, MovePlain, MoveToBody, MoveMigrated, MoveAllowed, moves_plain, moves_to_body, moves_migrated}
+use Rattle.redo_model.specs.AllowedRows.{migrates_plain, migrates_again, deletes_plain, deletes_migrated}
+use Rattle.redo_model.specs.AllowedMoves.{moves_plain, moves_to_body, moves_migrated}
 use Rattle.redo_laws.proofs.allowed.AllKinds.{of_row, of_move, found_in}
 use Rattle.redo_laws.proofs.steps.Beyond.{beyond}
 

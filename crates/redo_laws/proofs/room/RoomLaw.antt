@@ -1,36 +1,14 @@
 -- What the blocks of a lawful list count fits in them.
-use Rattle.std.proofs.Common.{◌≡◌, ◌⊎◌, ℕ, zero, suc, ◌+◌, ◌-◌, ◌*◌, ◌<◌, ◌≤◌, max, Bool, true, false, cond, not, ◌&&◌, ◌||◌, eqb, ltb, leb, List, [], ◌∷◌, length, get_or, Option, Some, None, refl, sym, ◌∙◌, ap, ap₂, subst, arith, inl, inr, le_refl}
-use Rattle.std.proofs.lemmas.Bool.{eqb-true, eqb-false, cond-true, cond-false, true≢false, cases_Bool, eq-eqb, and_parts, and_from, or_left, or_right, le-ltb, leb-true, leb-false, ltb-true, ltb-false, not-false, cases_order}
-use Rattle.seg_base.specs.declared.shape.Shape.{Shape}
-use Rattle.seg_base.specs.declared.slot.Slot.{Slot}
-use Rattle.seg_base.specs.declared.slot.Writer.{Writer}
-use Rattle.seg_base.specs.declared.slot.Writer.TheVariants.{By, At}
-use Rattle.seg_base.specs.Blocks.{new_slot}
-use Rattle.seg_base.specs.Room.{writer_has_ended}
-use Rattle.seg_base.specs.Cleaning.{number_of, number_of_writer, as_told, clean_slot}
-use Rattle.redo_record.specs.declared.record.Record.{Record}
-use Rattle.redo_record.specs.declared.part.RowPart.{RowPart}
-use Rattle.redo_record.specs.declared.row.BackRecord.{BackRecord}
-use Rattle.redo_model.specs.Effects.{Step, Effect, Still, Formats, Adds, TakesBack, Cleans, effect_of, Placed, written, restored, part_addr}
-use Rattle.redo_model.specs.Ordinals.{txn_count}
-use Rattle.redo_model.specs.Transactions.{is_active, ended_in}
-use Rattle.redo_model.specs.Steps.{standing}
-use Rattle.redo_model.specs.Slots.{is_place, placed_in, changed_image, image}
-use Rattle.redo_model.specs.Versions.{Made, made_by, without, changed_makers, makers}
-use Rattle.redo_model.specs.AllowedRows.{taken_back}
-use Rattle.redo_model.specs.Lawful.{IsKindAllowed, AreAllowed}
+use Rattle.std.proofs.Common.{◌≡◌, ◌⊎◌, ℕ, zero, suc, ◌+◌, ◌-◌, ◌*◌, ◌<◌, ◌≤◌, max, Bool, true, false, cond, not, ◌&&◌, ◌||◌, eqb, ltb, leb, List, [], ◌∷◌, length, get_or, Option, Some, None, refl, sym, ◌∙◌, ap, ap₂, subst, arith, inl, inr, le_refl, eqb-true, true≢false, eq-eqb, le-ltb, leb-true, leb-false, ltb-true, ltb-false, sum_by, option_map}
+use Rattle.seg_words.proofs.Lemmas.{eqb-false, cond-true, cond-false, cases_Bool, and_parts, and_from, or_left, or_right, not-false, cases_order}
+use Rattle.seg_words.specs.Types.{Shape, Slot, Writer, By, At, new_slot, writer_has_ended, number_of, number_of_writer, as_told, clean_slot, Open, Block, row_size, slot_size, used_of as used_by, free_of as free_by, slot_to_use, slot_need, entry_for, entry_need, entry_size, fits_beside, row_growth}
+use Rattle.redo_model.specs.Records.{Record, RowPart, BackRecord, Insert, Update, Migrate, Return, Delete, Move}
+use Rattle.redo_model.specs.Model.{Step, Effect, effect_of, Placed, written, restored, part_addr, txn_count, is_active, ended_in, standing, is_place, placed_in, changed_image, image, Made, made_by, without, changed_makers, makers, taken_back, IsKindAllowed, AreAllowed, slots_reached, changed_slot_count, slot_count, reach_entry, entries_reached, count_entered, changed_entry_count, entry_count, block_of, slots_of}
+use Rattle.redo_model.specs.Effects.{Still, Formats, Adds, TakesBack, Cleans}
 use Rattle.redo_laws.proofs.lists.Every.{Every, every-map}
 use Rattle.redo_laws.proofs.steps.OnTop.{is_named, head_named, OnTop}
 use Rattle.redo_laws.proofs.steps.Facts.{StatesOld, BackFits, EffectFits}
-use Rattle.std.specs.List.{sum_by}
-use Rattle.std.specs.Prelude.{option_map}
-use Rattle.seg_base.specs.declared.slot.Taker.TheVariants.{Open}
-use Rattle.seg_base.specs.Blocks.{Block}
-use Rattle.seg_base.specs.Room.{row_size, slot_size, used_of as used_by, free_of as free_by, slot_to_use, slot_need, entry_for, entry_need, entry_size, fits_beside, row_growth}
 use Rattle.seg_base.proofs.Rooms.{slot_to_use-le-length, entry_for-within, takes_is}
-use Rattle.redo_record.specs.declared.record.Record.TheVariants.{Insert, Update, Migrate, Return, Delete, Move}
-use Rattle.redo_model.specs.Slots.{slots_reached, changed_slot_count, slot_count, reach_entry, entries_reached, count_entered, changed_entry_count, entry_count}
-use Rattle.redo_model.specs.Blocks.{block_of, slots_of}
 use Rattle.redo_model.proofs.Bridge.{image_is, count_is, entry_count_is}
 use Rattle.redo_laws.specs.Room.{page_size, BlocksHaveRoom}
 use Rattle.redo_laws.proofs.numbers.Known.{Turn, turn}

@@ -1,12 +1,9 @@
 -- No extent is twice in a table, so no data block is.
-use Rattle.std.proofs.Common.{◌≡◌, ℕ, zero, suc, ◌+◌, ◌-◌, true, false, cond, eqb, List, [], ◌∷◌, ◌++◌, length, take, filter, refl, sym, ◌∙◌, subst, arith, inl, inr, Bool}
-use Rattle.std.proofs.lemmas.Bool.{eqb-true, eqb-false, true≢false, or_parts, or_cases, or_left, or_right, eq-eqb}
-use Rattle.seg_base.specs.declared.shape.Shape.{Shape}
-use Rattle.seg_base.specs.Places.{first_block, head_blocks}
-use Rattle.redo_record.specs.declared.record.Record.{Record}
-use Rattle.redo_record.specs.declared.record.Record.TheVariants.{Extend, Lower}
-use Rattle.redo_model.specs.Segments.{Extent, extents_of, blocks_from, extent_data, data_of, data_blocks, under_high, high_mark, has_extent}
-use Rattle.redo_model.specs.Lawful.{IsKindAllowed, AreAllowed}
+use Rattle.std.proofs.Common.{◌≡◌, ℕ, zero, suc, ◌+◌, ◌-◌, true, false, cond, eqb, List, [], ◌∷◌, ◌++◌, length, take, filter, refl, sym, ◌∙◌, subst, arith, inl, inr, Bool, eqb-true, true≢false, eq-eqb}
+use Rattle.seg_words.proofs.Lemmas.{eqb-false, or_parts, or_cases, or_left, or_right}
+use Rattle.seg_words.specs.Types.{Shape, first_block, head_blocks}
+use Rattle.redo_model.specs.Records.{Record, Extend, Lower}
+use Rattle.redo_model.specs.Model.{Extent, extents_of, blocks_from, extent_data, data_of, data_blocks, under_high, high_mark, has_extent, IsKindAllowed, AreAllowed}
 use Rattle.redo_laws.specs.Among.{is_in}
 use Rattle.redo_laws.proofs.lists.Bools.{off}
 use Rattle.redo_laws.proofs.space.Places.{in_range, in_either, in_take, data_in_extent, in_data, same_extent, IsNumber, free_has, has_taken}

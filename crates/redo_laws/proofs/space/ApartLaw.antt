@@ -1,13 +1,9 @@
 -- Extents and data blocks are apart.
-use Rattle.std.proofs.Common.{◌≡◌, ℕ, zero, suc, ◌+◌, ◌≤◌, true, false, cond, not, ◌||◌, eqb, List, [], ◌∷◌, ◌++◌, length, map, take, refl, sym, ◌∙◌, ap, subst, arith, inl, inr, length-append}
-use Rattle.std.proofs.lemmas.Bool.{eqb-true, true≢false, and_parts, leb-true}
-use Rattle.std.specs.Prelude.{Contains}
-use Rattle.seg_base.specs.declared.shape.Shape.{Shape}
-use Rattle.seg_base.specs.Places.{first_block, is_extent}
-use Rattle.redo_record.specs.declared.record.Record.{Record}
-use Rattle.redo_record.specs.declared.record.Record.TheVariants.{Extend, Lower}
-use Rattle.redo_model.specs.Segments.{Extent, extents_of, data_blocks, has_extent, is_taken}
-use Rattle.redo_model.specs.Lawful.{IsKindAllowed, AreAllowed}
+use Rattle.std.proofs.Common.{◌≡◌, ℕ, zero, suc, ◌+◌, ◌≤◌, true, false, cond, not, ◌||◌, eqb, List, [], ◌∷◌, ◌++◌, length, map, take, refl, sym, ◌∙◌, ap, subst, arith, inl, inr, length-append, eqb-true, true≢false, leb-true, Contains}
+use Rattle.seg_words.proofs.Lemmas.{and_parts}
+use Rattle.seg_words.specs.Types.{Shape, first_block, is_extent}
+use Rattle.redo_model.specs.Records.{Record, Extend, Lower}
+use Rattle.redo_model.specs.Model.{Extent, extents_of, data_blocks, has_extent, is_taken, IsKindAllowed, AreAllowed}
 use Rattle.redo_laws.specs.Among.{is_in, MembershipIsTold}
 use Rattle.redo_laws.specs.Apart.{AreDistinct, ExtentsAreApart}
 use Rattle.redo_laws.proofs.space.Places.{in_contains, contains_in, in_data, has_added, has_taken, segments, same_table, a_table}

@@ -1,18 +1,9 @@
 -- The low-mark rule: every lawful list keeps it.
-use Rattle.std.proofs.Common.{◌≡◌, ℕ, zero, suc, ◌+◌, ◌-◌, ◌<◌, ◌≤◌, true, false, cond, not, ◌&&◌, eqb, List, [], ◌∷◌, ◌++◌, length, take, drop, Some, None, refl, sym, ◌∙◌, ap, subst, arith, length-append, append_assoc, zero-add, append-nil, le_trans, le-add_right, add-zero, inl, inr, mul-le-mul_right, take-append-drop}
-use Rattle.std.proofs.lemmas.List.{take-append-le}
-use Rattle.std.proofs.lemmas.Bool.{cond_both, le-ltb, lt-leb, and_left, and_right, and_parts, or_right, or_parts, not-true, eqb-true, eqb-false, cases_order, cases_Bool, cond-true, cond-false}
-use Rattle.seg_base.specs.declared.shape.Shape.{Shape}
-use Rattle.seg_base.specs.Places.{first_block, is_extent, head_blocks}
-use Rattle.redo_record.specs.declared.record.Record.{Record}
-use Rattle.redo_record.specs.declared.record.Record.TheVariants.{Extend, FormatBlock, Advance, Lower}
-use Rattle.redo_record.specs.declared.space.ExtendRecord.{ExtendRecord}
-use Rattle.redo_record.specs.declared.space.LowerRecord.{LowerRecord}
-use Rattle.redo_record.specs.declared.space.AdvanceRecord.{AdvanceRecord}
-use Rattle.redo_record.specs.declared.space.FormatBlockRecord.{FormatBlockRecord}
-use Rattle.redo_model.specs.Segments.{Extent, extents_of, in_extent, blocks_from, data_of, data_blocks, Marks, marks, is_formatted, has_extent, is_taken, first_unformatted}
-use Rattle.redo_model.specs.AllowedTables.{AdvanceAllowed, LowerAllowed}
-use Rattle.redo_model.specs.Lawful.{IsKindAllowed, AreAllowed}
+use Rattle.std.proofs.Common.{◌≡◌, ℕ, zero, suc, ◌+◌, ◌-◌, ◌<◌, ◌≤◌, true, false, cond, not, ◌&&◌, eqb, List, [], ◌∷◌, ◌++◌, length, take, drop, Some, None, refl, sym, ◌∙◌, ap, subst, arith, length-append, append_assoc, zero-add, append-nil, le_trans, le-add_right, add-zero, inl, inr, mul-le-mul_right, take-append-drop, le-ltb, eqb-true}
+use Rattle.seg_words.proofs.Lemmas.{take-append-le, cond_both, lt-leb, and_left, and_right, and_parts, or_right, or_parts, not-true, eqb-false, cases_order, cases_Bool, cond-true, cond-false}
+use Rattle.seg_words.specs.Types.{Shape, first_block, is_extent, head_blocks}
+use Rattle.redo_model.specs.Records.{Record, Extend, FormatBlock, Advance, Lower, ExtendRecord, LowerRecord, AdvanceRecord, FormatBlockRecord}
+use Rattle.redo_model.specs.Model.{Extent, extents_of, in_extent, blocks_from, data_of, data_blocks, Marks, marks, is_formatted, has_extent, is_taken, first_unformatted, AdvanceAllowed, LowerAllowed, IsKindAllowed, AreAllowed}
 use Rattle.redo_laws.specs.Tables.{LowMarkRule}
 
 abbrev pub Each : (ℕ → Type 0) → List ℕ → Type 0

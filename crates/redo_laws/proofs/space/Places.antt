@@ -1,20 +1,9 @@
 -- Which blocks a table has: extents are of one table each, and formatted data blocks lie under the high mark.
-use Rattle.std.proofs.Common.{◌≡◌, ◌⊎◌, ℕ, zero, suc, ◌+◌, ◌-◌, ◌<◌, ◌≤◌, min, true, false, cond, not, ◌||◌, eqb, leb, List, [], ◌∷◌, ◌++◌, length, take, drop, Option, Some, None, refl, sym, ◌∙◌, ap, subst, arith, inl, inr, le_trans}
-use Rattle.std.proofs.lemmas.Bool.{eqb-true, eqb-false, cond-true, cond-false, true≢false, cases_Bool, eq-eqb, and_parts, and_from, or_cases, or_left, or_right, lt-ltb, le-leb, leb-true, leb-false, not-true}
-use Rattle.seg_base.specs.declared.shape.Shape.{Shape}
-use Rattle.redo_record.specs.declared.record.Record.{Record}
-use Rattle.redo_model.specs.Lawful.{IsKindAllowed, AreAllowed}
-use Rattle.std.proofs.lemmas.List.{take-append-le}
-use Rattle.std.proofs.Common.{take-append-drop}
-use Rattle.std.specs.Prelude.{Contains, slice_index_or}
-use Rattle.seg_base.specs.Places.{first_block, is_extent, head_blocks}
-use Rattle.redo_record.specs.declared.record.Record.TheVariants.{Table, Extend, FormatBlock, Advance, Lower}
-use Rattle.redo_record.specs.declared.space.ExtendRecord.{ExtendRecord}
-use Rattle.redo_record.specs.declared.space.FormatBlockRecord.{FormatBlockRecord}
-use Rattle.redo_record.specs.declared.space.AdvanceRecord.{AdvanceRecord}
-use Rattle.redo_record.specs.declared.space.LowerRecord.{LowerRecord}
-use Rattle.redo_model.specs.Segments.{Extent, extents_of, in_extent, blocks_from, extent_data, data_of, data_blocks, high_mark, marks, under_high, is_formatted, IsTable, table_count, has_extent, is_taken, is_free_extent, first_unformatted}
-use Rattle.redo_model.specs.AllowedTables.{ExtendAllowed, FormatAllowed, AdvanceAllowed, LowerAllowed}
+use Rattle.std.proofs.Common.{◌≡◌, ◌⊎◌, ℕ, zero, suc, ◌+◌, ◌-◌, ◌<◌, ◌≤◌, min, true, false, cond, not, ◌||◌, eqb, leb, List, [], ◌∷◌, ◌++◌, length, take, drop, Option, Some, None, refl, sym, ◌∙◌, ap, subst, arith, inl, inr, le_trans, eqb-true, true≢false, eq-eqb, lt-ltb, le-leb, leb-true, leb-false, take-append-drop, Contains, slice_index_or}
+use Rattle.seg_words.proofs.Lemmas.{eqb-false, cond-true, cond-false, cases_Bool, and_parts, and_from, or_cases, or_left, or_right, not-true, take-append-le}
+use Rattle.seg_words.specs.Types.{Shape, first_block, is_extent, head_blocks}
+use Rattle.redo_model.specs.Records.{Record, Table, Extend, FormatBlock, Advance, Lower, ExtendRecord, FormatBlockRecord, AdvanceRecord, LowerRecord}
+use Rattle.redo_model.specs.Model.{IsKindAllowed, AreAllowed, Extent, extents_of, in_extent, blocks_from, extent_data, data_of, data_blocks, high_mark, marks, under_high, is_formatted, IsTable, table_count, has_extent, is_taken, is_free_extent, first_unformatted, ExtendAllowed, FormatAllowed, AdvanceAllowed, LowerAllowed}
 use Rattle.redo_laws.specs.Among.{is_in}
 use Rattle.redo_laws.proofs.space.LowMark.{apart, free_of, data_of-append}
 

@@ -1,29 +1,9 @@
 -- What stands in slots and list entries can be put on a page.
-use Rattle.std.proofs.Common.{◌≡◌, ℕ, zero, suc, ◌<◌, ◌≤◌, ◌^◌, true, false, cond, ◌&&◌, eqb, List, [], ◌∷◌, length, Option, Some, None, refl, sym, ◌∙◌, ap, subst, arith, le_refl}
-use Rattle.std.proofs.lemmas.Bool.{true≢false}
-use Rattle.seg_base.specs.declared.shape.Shape.{Shape}
-use Rattle.seg_base.specs.declared.slot.Kind.{Kind}
-use Rattle.seg_base.specs.declared.slot.Kind.TheVariants.{Empty, Row, Head, Body}
-use Rattle.seg_base.specs.declared.slot.ListEntry.{ListEntry}
-use Rattle.seg_base.specs.declared.slot.Slot.{Slot}
-use Rattle.seg_base.specs.declared.slot.Writer.{Writer}
-use Rattle.seg_base.specs.declared.slot.Writer.TheVariants.{By, At}
-use Rattle.seg_base.specs.Blocks.{new_slot, new_entry}
-use Rattle.seg_base.specs.Cleaning.{number_of, number_of_writer, as_told, clean_slot, entry_as_told, clean_entry}
-use Rattle.seg_base.specs.Room.{is_empty}
-use Rattle.seg_base.specs.Places.{is_shape}
-use Rattle.redo_record.specs.declared.record.Record.{Record}
-use Rattle.redo_record.specs.declared.record.Record.TheVariants.{Insert, Update, Migrate, Return, Delete, Back, Move}
-use Rattle.redo_record.specs.declared.part.RowPart.{RowPart}
-use Rattle.redo_record.specs.declared.part.BackPart.{BackPart}
-use Rattle.redo_record.specs.declared.row.BackRecord.{BackRecord}
-use Rattle.redo_model.specs.Effects.{Step, Effect, Still, Formats, Adds, TakesBack, Cleans, effect_of, row_step, move_step, written, restored}
-use Rattle.redo_model.specs.Ordinals.{txn_count, is_begin}
-use Rattle.redo_model.specs.Steps.{is_by, standing_steps, standing, newest_of}
-use Rattle.redo_model.specs.Tables.{holds_row}
-use Rattle.redo_model.specs.Slots.{is_place, is_at, placed_in, changed_image, image, entered_in, entered_by, changed_entry, entry}
-use Rattle.redo_model.specs.AllowedRows.{taken_back, BackAllowed}
-use Rattle.redo_model.specs.Lawful.{IsKindAllowed, AreAllowed}
+use Rattle.std.proofs.Common.{◌≡◌, ℕ, zero, suc, ◌<◌, ◌≤◌, ◌^◌, true, false, cond, ◌&&◌, eqb, List, [], ◌∷◌, length, Option, Some, None, refl, sym, ◌∙◌, ap, subst, arith, le_refl, true≢false}
+use Rattle.seg_words.specs.Types.{Shape, Kind, Empty, Row, Head, Body, ListEntry, Slot, Writer, By, At, new_slot, new_entry, number_of, number_of_writer, as_told, clean_slot, entry_as_told, clean_entry, is_empty, is_shape}
+use Rattle.redo_model.specs.Records.{Record, Insert, Update, Migrate, Return, Delete, Back, Move, RowPart, BackPart, BackRecord}
+use Rattle.redo_model.specs.Model.{Step, Effect, effect_of, row_step, move_step, written, restored, txn_count, is_begin, is_by, standing_steps, standing, newest_of, holds_row, is_place, is_at, placed_in, changed_image, image, entered_in, entered_by, changed_entry, entry, taken_back, BackAllowed, IsKindAllowed, AreAllowed}
+use Rattle.redo_model.specs.Effects.{Still, Formats, Adds, TakesBack, Cleans}
 use Rattle.redo_laws.specs.Sound.{BlocksAreSound}
 use Rattle.redo_laws.proofs.lists.Every.{Every, every-filter}
 use Rattle.redo_laws.proofs.steps.Facts.{StatesOld}

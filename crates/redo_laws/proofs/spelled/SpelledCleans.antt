@@ -1,32 +1,16 @@
 -- A Clean names few transactions, each of a number that can be written.
-use Rattle.std.proofs.Common.{◌≡◌, ℕ, suc, ◌<◌, ◌≤◌, Bool, true, false, cond, not, eqb, List, [], ◌∷◌, ◌++◌, length, map, filter, Option, Some, None, refl, sym, ◌∙◌, ap, subst, arith, inl, inr, length-append}
-use Rattle.std.proofs.lemmas.Bool.{cond_both, cond-true, cond-false, true≢false, cases_Bool, eqb-true, ne_eqb, eq-eqb, and_parts, or_cases, or_left, or_right}
-use Rattle.std.specs.List.{AllByRecursion}
-use Rattle.seg_base.specs.declared.shape.Shape.{Shape}
-use Rattle.seg_base.specs.declared.slot.ListEntry.{ListEntry}
-use Rattle.seg_base.specs.declared.slot.Slot.{Slot}
-use Rattle.seg_base.specs.declared.slot.Writer.{Writer}
-use Rattle.seg_base.specs.declared.slot.Writer.TheVariants.{By, At}
-use Rattle.seg_base.specs.Blocks.{Block}
-use Rattle.seg_base.specs.Cleaning.{number_of}
-use Rattle.seg_base.specs.Images.{writer_number}
-use Rattle.redo_record.specs.declared.record.Record.{Record}
-use Rattle.redo_record.specs.declared.transaction.CleanRecord.{CleanRecord}
-use Rattle.redo_record.specs.Spelled.{IsClean}
-use Rattle.redo_model.specs.Ordinals.{commit_count, is_commit, is_begin}
-use Rattle.redo_model.specs.Transactions.{is_active, has_begun, commit_number, is_forgotten}
-use Rattle.redo_model.specs.Steps.{is_by}
-use Rattle.redo_model.specs.Blocks.{slots_of, entries_of, block_of}
-use Rattle.redo_model.specs.AllowedTransactions.{slots_name, entries_name, is_named_in, number_or_zero, stated_number, IsRising, CleanAllowed}
+use Rattle.std.proofs.Common.{◌≡◌, ℕ, suc, ◌<◌, ◌≤◌, Bool, true, false, cond, not, eqb, List, [], ◌∷◌, ◌++◌, length, map, filter, Option, Some, None, refl, sym, ◌∙◌, ap, subst, arith, inl, inr, length-append, true≢false, eqb-true, ne_eqb, eq-eqb}
+use Rattle.seg_words.proofs.Lemmas.{cond_both, cond-true, cond-false, cases_Bool, and_parts, or_cases, or_left, or_right}
+use Rattle.seg_words.specs.Types.{AllByRecursion, Shape, ListEntry, Slot, Writer, By, At, Block, number_of, writer_number}
+use Rattle.redo_model.specs.Records.{Record, CleanRecord, IsClean}
+use Rattle.redo_model.specs.Model.{commit_count, is_commit, is_begin, is_active, has_begun, commit_number, is_forgotten, is_by, slots_of, entries_of, block_of, slots_name, entries_name, is_named_in, number_or_zero, stated_number, IsRising, CleanAllowed, under_high, high_mark, data_blocks}
 use Rattle.redo_model.proofs.Bridge.{count_is, entry_count_is}
 use Rattle.redo_laws.proofs.space.Apart.{filter_has}
 use Rattle.redo_laws.proofs.numbers.Bounds.{count_short, data_bound}
-use Rattle.redo_laws.proofs.space.Places.{in_left, in_right}
-use Rattle.redo_laws.proofs.space.Places.{in_contains, in_take}
+use Rattle.redo_laws.proofs.space.Places.{in_left, in_right, in_contains, in_take}
 use Rattle.redo_laws.proofs.room.RoomLaw.{RoomIn}
 use Rattle.redo_laws.proofs.spelled.SpelledRows.{AreNumbers, Before}
 use Rattle.redo_laws.proofs.numbers.TxnTable.{TxnTable, txn_table}
-use Rattle.redo_model.specs.Segments.{under_high, high_mark, data_blocks}
 use Rattle.redo_laws.specs.Among.{is_in}
 
 -- transactions in rising order

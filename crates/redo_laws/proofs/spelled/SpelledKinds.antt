@@ -1,25 +1,11 @@
 -- What each kind of row record and Move says of its own numbers and links.
-use Rattle.std.proofs.Common.{◌≡◌, ℕ, ◌<◌, ◌≤◌, ◌^◌, Bool, true, false, List, [], length, Some, refl, sym, ◌∙◌, ap, subst, arith}
-use Rattle.std.proofs.lemmas.Bool.{true≢false}
-use Rattle.seg_base.specs.declared.slot.Kind.{Kind}
-use Rattle.seg_base.specs.declared.slot.Kind.TheVariants.{Empty, Row, Head, Body}
-use Rattle.redo_model.specs.Tables.{holds_row}
-use Rattle.seg_base.specs.declared.shape.Shape.{Shape}
-use Rattle.seg_base.specs.Room.{is_empty}
-use Rattle.redo_record.specs.declared.record.Record.{Record}
-use Rattle.redo_record.specs.declared.record.Record.TheVariants.{Insert, Update, Migrate, Return, Delete, Move}
-use Rattle.redo_record.specs.declared.part.RowPart.{RowPart}
-use Rattle.redo_record.specs.declared.row.MoveRecord.{MoveRecord}
-use Rattle.redo_record.specs.declared.row.RowBody.{RowBody}
-use Rattle.redo_record.specs.Spelled.{IsTableNumber, IsLink, IsPlace}
-use Rattle.redo_model.specs.Effects.{Effect, Adds, effect_of, row_step, move_step}
-use Rattle.redo_model.specs.Ordinals.{is_insert}
-use Rattle.redo_model.specs.Steps.{standing, last_undo}
-use Rattle.redo_model.specs.Slots.{image}
-use Rattle.redo_model.specs.Segments.{IsTable, IsRowBlock}
-use Rattle.redo_model.specs.AllowedRows.{at_place, next_slot, MayChange, InsertAllowed, UpdateAllowed, MigratePlain, MigrateAgain, MigrateAllowed, migrates_plain, migrates_again, ReturnAllowed, DeleteAllowed, deletes_plain, deletes_migrated}
-use Rattle.redo_model.specs.AllowedMoves.{MayMove, MoveAllowed, moves_plain, moves_to_body, moves_migrated}
-use Rattle.redo_model.specs.Lawful.{IsKindAllowed}
+use Rattle.std.proofs.Common.{◌≡◌, ℕ, ◌<◌, ◌≤◌, ◌^◌, Bool, true, false, List, [], length, Some, refl, sym, ◌∙◌, ap, subst, arith, true≢false}
+use Rattle.seg_words.specs.Types.{Kind, Empty, Row, Head, Body, Shape, is_empty}
+use Rattle.redo_model.specs.Model.{holds_row, Effect, effect_of, row_step, move_step, is_insert, standing, last_undo, image, IsTable, IsRowBlock, at_place, next_slot, MayChange, InsertAllowed, UpdateAllowed, MigratePlain, MigrateAgain, MigrateAllowed, ReturnAllowed, DeleteAllowed, MayMove, MoveAllowed, IsKindAllowed}
+use Rattle.redo_model.specs.Records.{Record, Insert, Update, Migrate, Return, Delete, Move, RowPart, MoveRecord, RowBody, IsTableNumber, IsLink, IsPlace}
+use Rattle.redo_model.specs.Effects.{Adds}
+use Rattle.redo_model.specs.AllowedRows.{migrates_plain, migrates_again, deletes_plain, deletes_migrated}
+use Rattle.redo_model.specs.AllowedMoves.{moves_plain, moves_to_body, moves_migrated}
 use Rattle.redo_laws.proofs.lists.Every.{Every}
 use Rattle.redo_laws.proofs.numbers.Bounds.{count_short}
 use Rattle.redo_laws.proofs.space.Places.{segments, a_table}

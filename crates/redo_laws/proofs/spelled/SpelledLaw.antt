@@ -1,38 +1,11 @@
 -- Each allowed record has a spelling.
-use Rattle.std.proofs.Common.{◌≡◌, ℕ, zero, suc, ◌+◌, ◌*◌, ◌<◌, ◌≤◌, ◌^◌, Bool, true, false, not, eqb, List, [], ◌∷◌, length, map, take, drop, Option, Some, None, refl, sym, ◌∙◌, ap, subst, arith, le_refl}
-use Rattle.std.proofs.lemmas.Bool.{and_parts, leb-true, or_left, or_right, eq-eqb}
-use Rattle.std.specs.List.{AllByRecursion}
-use Rattle.seg_base.specs.declared.shape.Shape.{Shape}
-use Rattle.seg_base.specs.Places.{first_block, is_extent, is_shape}
-use Rattle.redo_record.specs.declared.record.Record.{Record}
-use Rattle.redo_record.specs.declared.record.Record.TheVariants.{Table, Movement, Extend, FormatBlock, Class, Advance, Lower, Begin, Reuse, Insert, Update, Migrate, Return, Delete, Commit, Back, Ended, Move, Clean}
-use Rattle.redo_record.specs.declared.part.RowPart.{RowPart}
-use Rattle.redo_record.specs.declared.row.RowBody.{RowBody}
-use Rattle.redo_record.specs.declared.row.BackRecord.{BackRecord}
-use Rattle.redo_record.specs.declared.row.MoveRecord.{MoveRecord}
-use Rattle.redo_record.specs.declared.space.TableRecord.{TableRecord}
-use Rattle.redo_record.specs.declared.space.MovementRecord.{MovementRecord}
-use Rattle.redo_record.specs.declared.space.ExtendRecord.{ExtendRecord}
-use Rattle.redo_record.specs.declared.space.FormatBlockRecord.{FormatBlockRecord}
-use Rattle.redo_record.specs.declared.space.ClassRecord.{ClassRecord}
-use Rattle.redo_record.specs.declared.space.AdvanceRecord.{AdvanceRecord}
-use Rattle.redo_record.specs.declared.space.LowerRecord.{LowerRecord}
-use Rattle.redo_record.specs.declared.transaction.BeginRecord.{BeginRecord}
-use Rattle.redo_record.specs.declared.transaction.ReuseRecord.{ReuseRecord}
-use Rattle.redo_record.specs.declared.transaction.CommitRecord.{CommitRecord}
-use Rattle.redo_record.specs.declared.transaction.EndedRecord.{EndedRecord}
-use Rattle.redo_record.specs.Spelled.{IsBlock, IsUndo, IsPlace, IsRowPart, IsBackPart, IsRowBody, IsBack, IsMove, IsTable, IsMovement, IsExtend, IsFormatBlock, IsClass, IsAdvance, IsThree, AreExtents, IsLower, IsBegin, IsReuse, IsCommit, IsEnded, HasSpelling}
-use Rattle.redo_model.specs.Effects.{Step, effect_of, row_step, move_step}
-use Rattle.redo_model.specs.Ordinals.{is_commit, is_begin, is_lower}
-use Rattle.redo_model.specs.Transactions.{is_active, entry_of}
-use Rattle.redo_model.specs.Steps.{standing}
-use Rattle.redo_model.specs.Segments.{Extent, extents_of, data_blocks, high_mark, under_high, has_extent, extent_at, block_in, is_taken, is_free_extent, group_start, index_of}
-use Rattle.redo_model.specs.AllowedTables.{TableAllowed, MovementAllowed, ExtendAllowed, FormatAllowed, ClassAllowed, AdvanceAllowed, LowerAllowed, l2_at}
-use Rattle.redo_model.specs.AllowedTransactions.{TakesEntry, takes_unused, takes_rolled_back, takes_committed, BeginAllowed, ReuseAllowed, CommitAllowed, EndedAllowed}
-use Rattle.redo_model.specs.AllowedRows.{taken_back, BackAllowed, MayChange, MigrateAllowed, migrates_plain, migrates_again, DeleteAllowed, deletes_plain, deletes_migrated}
-use Rattle.redo_model.specs.AllowedMoves.{MoveAllowed}
-use Rattle.redo_model.specs.Slots.{image}
-use Rattle.redo_model.specs.Lawful.{IsKindAllowed, AreAllowed}
+use Rattle.std.proofs.Common.{◌≡◌, ℕ, zero, suc, ◌+◌, ◌*◌, ◌<◌, ◌≤◌, ◌^◌, Bool, true, false, not, eqb, List, [], ◌∷◌, length, map, take, drop, Option, Some, None, refl, sym, ◌∙◌, ap, subst, arith, le_refl, leb-true, eq-eqb}
+use Rattle.seg_words.proofs.Lemmas.{and_parts, or_left, or_right}
+use Rattle.seg_words.specs.Types.{AllByRecursion, Shape, first_block, is_extent, is_shape}
+use Rattle.redo_model.specs.Records.{Record, Table, Movement, Extend, FormatBlock, Class, Advance, Lower, Begin, Reuse, Insert, Update, Migrate, Return, Delete, Commit, Back, Ended, Move, Clean, RowPart, RowBody, BackRecord, MoveRecord, TableRecord, MovementRecord, ExtendRecord, FormatBlockRecord, ClassRecord, AdvanceRecord, LowerRecord, BeginRecord, ReuseRecord, CommitRecord, EndedRecord, IsBlock, IsUndo, IsPlace, IsRowPart, IsBackPart, IsRowBody, IsBack, IsMove, IsTable, IsMovement, IsExtend, IsFormatBlock, IsClass, IsAdvance, IsThree, AreExtents, IsLower, IsBegin, IsReuse, IsCommit, IsEnded, HasSpelling}
+use Rattle.redo_model.specs.Model.{Step, effect_of, row_step, move_step, is_commit, is_begin, is_lower, is_active, entry_of, standing, Extent, extents_of, data_blocks, high_mark, under_high, has_extent, extent_at, block_in, is_taken, is_free_extent, group_start, index_of, TableAllowed, MovementAllowed, ExtendAllowed, FormatAllowed, ClassAllowed, AdvanceAllowed, LowerAllowed, l2_at, TakesEntry, BeginAllowed, ReuseAllowed, CommitAllowed, EndedAllowed, taken_back, BackAllowed, MayChange, MigrateAllowed, DeleteAllowed, MoveAllowed, image, IsKindAllowed, AreAllowed}
+use Rattle.redo_model.specs.AllowedTransactions.{takes_unused, takes_rolled_back, takes_committed}
+use Rattle.redo_model.specs.AllowedRows.{migrates_plain, migrates_again, deletes_plain, deletes_migrated}
 use Rattle.redo_laws.specs.Fit.{EachFits, EffectFits}
 use Rattle.redo_laws.specs.Spelled.{RecordsAreSpelled}
 use Rattle.redo_laws.proofs.lists.Every.{Every, every-filter}

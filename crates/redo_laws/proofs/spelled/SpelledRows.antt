@@ -1,32 +1,11 @@
 -- Images, and the parts of row records and Moves, have spellings.
-use Rattle.std.proofs.Common.{◌≡◌, ℕ, zero, suc, ◌+◌, ◌<◌, ◌≤◌, ◌^◌, true, false, cond, eqb, ltb, leb, List, [], ◌∷◌, length, Option, Some, None, refl, sym, ◌∙◌, ap, subst, arith, inl, inr}
-use Rattle.std.proofs.lemmas.Bool.{true≢false, cases_Bool, not-true, ltb-false, leb-true, leb-false}
-use Rattle.std.specs.List.{AllByRecursion}
-use Rattle.seg_base.specs.declared.shape.Shape.{Shape}
-use Rattle.seg_base.specs.declared.slot.Kind.TheVariants.{Head}
-use Rattle.seg_base.specs.declared.slot.Slot.{Slot}
-use Rattle.seg_base.specs.declared.slot.UndoAddr.{UndoAddr}
-use Rattle.seg_base.specs.declared.slot.Writer.{Writer}
-use Rattle.seg_base.specs.declared.slot.Writer.TheVariants.{By, At}
-use Rattle.seg_base.specs.Blocks.{new_slot}
-use Rattle.seg_base.specs.Cleaning.{number_of, number_of_writer, as_told, clean_slot}
-use Rattle.seg_base.specs.Images.{writer_number}
-use Rattle.seg_base.specs.Room.{is_empty}
+use Rattle.std.proofs.Common.{◌≡◌, ℕ, zero, suc, ◌+◌, ◌<◌, ◌≤◌, ◌^◌, true, false, cond, eqb, ltb, leb, List, [], ◌∷◌, length, Option, Some, None, refl, sym, ◌∙◌, ap, subst, arith, inl, inr, true≢false, ltb-false, leb-true, leb-false}
+use Rattle.seg_words.proofs.Lemmas.{cases_Bool, not-true}
+use Rattle.seg_words.specs.Types.{AllByRecursion, Shape, Head, Slot, UndoAddr, Writer, By, At, new_slot, number_of, number_of_writer, as_told, clean_slot, writer_number, is_empty}
 use Rattle.seg_base.proofs.Rooms.{slot_to_use-le-length}
-use Rattle.redo_record.specs.declared.record.Record.{Record}
-use Rattle.redo_record.specs.declared.part.RowPart.{RowPart}
-use Rattle.redo_record.specs.declared.part.BackPart.{BackPart}
-use Rattle.redo_record.specs.Spelled.{IsTableNumber, IsUndo, IsPlace, IsLink, IsEntry, IsImage, IsRowPart, IsBackPart, AreParts}
-use Rattle.redo_model.specs.Effects.{Step, Effect, Still, Formats, Adds, TakesBack, Cleans, written, restored}
-use Rattle.redo_model.specs.Ordinals.{is_commit, is_begin}
-use Rattle.redo_model.specs.Transactions.{ended_in}
-use Rattle.redo_model.specs.Steps.{is_by, standing_steps, standing, newest_of, undo_of_step}
-use Rattle.redo_model.specs.Slots.{is_place, placed_in, changed_image, image, slot_count}
-use Rattle.redo_model.specs.Blocks.{block_of}
-use Rattle.redo_model.specs.Undo.{parts_size, undo_used}
-use Rattle.redo_model.specs.AllowedRows.{at_place, next_slot, place_of_undo}
-use Rattle.redo_model.specs.Segments.{data_blocks}
-use Rattle.redo_model.specs.Lawful.{AreAllowed}
+use Rattle.redo_model.specs.Records.{Record, RowPart, BackPart, IsTableNumber, IsUndo, IsPlace, IsLink, IsEntry, IsImage, IsRowPart, IsBackPart, AreParts}
+use Rattle.redo_model.specs.Model.{Step, Effect, written, restored, is_commit, is_begin, ended_in, is_by, standing_steps, standing, newest_of, undo_of_step, is_place, placed_in, changed_image, image, slot_count, block_of, parts_size, undo_used, at_place, next_slot, place_of_undo, data_blocks, AreAllowed}
+use Rattle.redo_model.specs.Effects.{Still, Formats, Adds, TakesBack, Cleans}
 use Rattle.redo_model.proofs.Bridge.{count_is}
 use Rattle.redo_laws.specs.Among.{is_in}
 use Rattle.redo_laws.specs.Fit.{PartFits, EachFits}

@@ -1,28 +1,13 @@
 -- A step of the right shape fits a list that is lawful so far.
-use Rattle.std.proofs.Common.{◌≡◌, ◌⊎◌, ℕ, suc, ◌≤◌, Bool, true, false, cond, not, ◌&&◌, eqb, List, [], ◌∷◌, length, Option, Some, None, refl, sym, ◌∙◌, ap, subst, arith, inl, inr, le_refl}
-use Rattle.std.proofs.lemmas.Bool.{eqb-true, cond-true, cond-false, true≢false, cases_Bool, eq-eqb, and_parts, and_from, or_left, or_right}
-use Rattle.seg_base.specs.declared.shape.Shape.{Shape}
-use Rattle.seg_base.specs.declared.slot.Slot.{Slot}
-use Rattle.seg_base.specs.declared.slot.UndoAddr.{UndoAddr}
-use Rattle.seg_base.specs.declared.slot.Writer.{Writer}
-use Rattle.seg_base.specs.declared.slot.Writer.TheVariants.{By, At}
-use Rattle.seg_base.specs.Room.{is_empty, writer_has_ended}
-use Rattle.redo_record.specs.declared.record.Record.{Record}
-use Rattle.redo_record.specs.declared.part.RowPart.{RowPart}
-use Rattle.redo_model.specs.Effects.{Step, Adds, written}
-use Rattle.redo_model.specs.Ordinals.{commit_count, txn_count, row_count}
-use Rattle.redo_model.specs.Transactions.{is_active, ended_in}
-use Rattle.redo_model.specs.Steps.{is_by, standing, newest_on}
-use Rattle.redo_model.specs.Tables.{holds_row, outcome}
-use Rattle.redo_model.specs.Slots.{is_place, placed_in, image}
-use Rattle.redo_model.specs.Versions.{Made, without, makers, first_counted, row_in}
-use Rattle.redo_model.specs.Lawful.{AreAllowed}
+use Rattle.std.proofs.Common.{◌≡◌, ◌⊎◌, ℕ, suc, ◌≤◌, Bool, true, false, cond, not, ◌&&◌, eqb, List, [], ◌∷◌, length, Option, Some, None, refl, sym, ◌∙◌, ap, subst, arith, inl, inr, le_refl, eqb-true, true≢false, eq-eqb}
+use Rattle.seg_words.proofs.Lemmas.{cond-true, cond-false, cases_Bool, and_parts, and_from, or_left, or_right}
+use Rattle.seg_words.specs.Types.{Shape, Slot, UndoAddr, Writer, By, At, is_empty, writer_has_ended, row_size, next_room}
+use Rattle.redo_model.specs.Records.{Record, RowPart}
+use Rattle.redo_model.specs.Model.{Step, written, commit_count, txn_count, row_count, is_active, ended_in, is_by, standing, newest_on, holds_row, outcome, is_place, placed_in, image, Made, without, makers, first_counted, row_in, AreAllowed, counts}
+use Rattle.redo_model.specs.Effects.{Adds}
 use Rattle.redo_laws.proofs.lists.Every.{Every}
 use Rattle.redo_laws.proofs.steps.OnTop.{is_named, off_named, head_named, OnTop}
-use Rattle.redo_laws.proofs.steps.Facts.{StatesOld, Counted, Found, place_of, located, MayOver, HeadOver, BegunBy, Told, MoveKeeps, StepFits, HeadSettled, IsFit}
-use Rattle.seg_base.specs.Room.{row_size, next_room}
-use Rattle.redo_model.specs.Versions.{counts}
-use Rattle.redo_laws.proofs.steps.Facts.{IfSettled, SameCounts, IsClosed, newest_outcome}
+use Rattle.redo_laws.proofs.steps.Facts.{StatesOld, Counted, Found, place_of, located, MayOver, HeadOver, BegunBy, Told, MoveKeeps, StepFits, HeadSettled, IsFit, IfSettled, SameCounts, IsClosed, newest_outcome}
 use Rattle.redo_laws.proofs.steps.Held.{Held, own}
 use Rattle.redo_laws.proofs.spread.Spread.{good, by_of}
 use Rattle.redo_laws.proofs.spread.Views.{ready, lock_over, view_is_newest}

@@ -1,14 +1,9 @@
 -- Rows in order of number are the rows of a view where each number has what the view has.
-use Rattle.std.proofs.Common.{◌≡◌, ℕ, zero, suc, ◌<◌, ◌≤◌, true, false, cond, eqb, List, [], ◌∷◌, ◌++◌, Option, Some, None, refl, sym, ◌∙◌, ap, ap₂, subst, arith, inl, inr, le_refl, append-nil}
-use Rattle.std.proofs.lemmas.Bool.{eqb-true, eqb-false, cases_Bool, cases_order, eq-eqb, ne_eqb, cond-true, cond-false}
-use Rattle.std.specs.Prelude.{option_to_list}
-use Rattle.seg_base.specs.declared.shape.Shape.{Shape}
-use Rattle.redo_record.specs.declared.record.Record.{Record}
-use Rattle.redo_record.specs.declared.record.Record.TheVariants.{Insert}
-use Rattle.redo_model.specs.Ordinals.{commit_count, row_count}
-use Rattle.redo_model.specs.Tables.{view, rows_up_to, view_rows}
-use Rattle.redo_model.specs.Segments.{IsTable}
-use Rattle.redo_model.specs.Lawful.{AreAllowed}
+use Rattle.std.proofs.Common.{◌≡◌, ℕ, zero, suc, ◌<◌, ◌≤◌, true, false, cond, eqb, List, [], ◌∷◌, ◌++◌, Option, Some, None, refl, sym, ◌∙◌, ap, ap₂, subst, arith, inl, inr, le_refl, append-nil, eqb-true, eq-eqb, ne_eqb, option_to_list}
+use Rattle.seg_words.proofs.Lemmas.{eqb-false, cases_Bool, cases_order, cond-true, cond-false}
+use Rattle.seg_words.specs.Types.{Shape}
+use Rattle.redo_model.specs.Records.{Record, Insert}
+use Rattle.redo_model.specs.Model.{commit_count, row_count, view, rows_up_to, view_rows, IsTable, AreAllowed}
 use Rattle.redo_laws.specs.Homes.{row_table}
 use Rattle.redo_laws.specs.Scan.{numbered, IsBelow, IsInOrder}
 use Rattle.redo_laws.specs.Views.{IsOpen}

@@ -1,8 +1,8 @@
 -- A lawful list in which a row of an earlier commit number is in the view of a transaction and in no block.
 use Rattle.std.proofs.Common.{false, ◌∷◌, refl, lit<, lit≤}
-use Rattle.std.proofs.lemmas.Bool.{agree_below_at}
-use Rattle.redo_model.specs.AllowedTransactions.{takes_unused, entry_state, is_unused}
-use Rattle.redo_model.specs.Lawful.{AreAllowed}
+use Rattle.seg_words.proofs.Lemmas.{agree_below_at}
+use Rattle.redo_model.specs.AllowedTransactions.{takes_unused}
+use Rattle.redo_model.specs.Model.{entry_state, is_unused, AreAllowed}
 use Rattle.redo_model.specs.Worked.{small, hello, begin, filled}
 use Rattle.redo_model.proofs.LawfulRuns.{lowered_lawful}
 use Rattle.redo_laws.specs.Past.{taken_anew, PastIsLost}

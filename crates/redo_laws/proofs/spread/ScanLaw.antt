@@ -1,15 +1,9 @@
 -- A scan finds each row of its view, once.
-use Rattle.std.proofs.Common.{◌≡◌, ℕ, zero, suc, ◌<◌, true, false, ◌||◌, eqb, List, [], ◌∷◌, ◌++◌, Option, Some, None, refl, sym, ◌∙◌, ap, ap₂, subst, arith, inl, inr, le_refl}
-use Rattle.std.proofs.lemmas.Bool.{eqb-true, eqb-false, cases_Bool, cases_order, true≢false, or_cases, eq-eqb, cond-true, cond-false}
-use Rattle.std.specs.Prelude.{option_to_list}
-use Rattle.seg_base.specs.declared.shape.Shape.{Shape}
-use Rattle.redo_record.specs.declared.record.Record.{Record}
-use Rattle.redo_model.specs.Ordinals.{commit_count}
-use Rattle.redo_model.specs.Tables.{view}
-use Rattle.redo_model.specs.Slots.{slot_count}
-use Rattle.redo_model.specs.Versions.{row_at, rows_at, found_below}
-use Rattle.redo_model.specs.Segments.{IsTable, IsRowBlock, is_formatted, under_high}
-use Rattle.redo_model.specs.Lawful.{AreAllowed}
+use Rattle.std.proofs.Common.{◌≡◌, ℕ, zero, suc, ◌<◌, true, false, ◌||◌, eqb, List, [], ◌∷◌, ◌++◌, Option, Some, None, refl, sym, ◌∙◌, ap, ap₂, subst, arith, inl, inr, le_refl, eqb-true, true≢false, eq-eqb, option_to_list}
+use Rattle.seg_words.proofs.Lemmas.{eqb-false, cases_Bool, cases_order, or_cases, cond-true, cond-false}
+use Rattle.seg_words.specs.Types.{Shape}
+use Rattle.redo_model.specs.Records.{Record}
+use Rattle.redo_model.specs.Model.{commit_count, view, slot_count, row_at, rows_at, found_below, IsTable, IsRowBlock, is_formatted, under_high, AreAllowed}
 use Rattle.redo_laws.specs.Among.{is_in}
 use Rattle.redo_laws.specs.Scan.{scan_list, scanned, numbered, IsReadAfter, ScansAreWhole}
 use Rattle.redo_laws.specs.Views.{IsOpen}

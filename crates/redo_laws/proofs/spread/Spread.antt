@@ -1,20 +1,10 @@
 -- Each row is seen in one slot: where its newest step that counts put it.
-use Rattle.std.proofs.Common.{◌≡◌, ℕ, ◌<◌, ◌≤◌, Bool, true, false, cond, not, ◌&&◌, ◌||◌, eqb, List, [], ◌∷◌, Option, Some, None, refl, sym, ◌∙◌, ap, ap₂, subst, arith, ◌⊎◌, inl, inr, le_trans}
-use Rattle.std.proofs.lemmas.Bool.{eqb-true, eqb-false, ne_eqb, cond-true, cond-false, true≢false, cases_Bool, eq-eqb, and_parts, and_from, and_left, and_right}
-use Rattle.seg_base.specs.declared.shape.Shape.{Shape}
-use Rattle.seg_base.specs.declared.slot.Slot.{Slot}
-use Rattle.seg_base.specs.declared.slot.UndoAddr.{UndoAddr}
-use Rattle.seg_base.specs.declared.slot.Writer.{Writer}
-use Rattle.seg_base.specs.declared.slot.Writer.TheVariants.{By, At}
-use Rattle.redo_record.specs.declared.record.Record.{Record}
-use Rattle.redo_record.specs.declared.part.RowPart.{RowPart}
-use Rattle.redo_record.specs.declared.row.BackRecord.{BackRecord}
-use Rattle.redo_model.specs.Effects.{Step, Effect, Still, Formats, Adds, TakesBack, Cleans, effect_of, written, restored}
-use Rattle.redo_model.specs.Ordinals.{txn_count}
-use Rattle.redo_model.specs.Transactions.{is_active}
-use Rattle.redo_model.specs.Steps.{is_addr, is_by, without_step, standing_steps, standing, newest_on}
-use Rattle.redo_model.specs.Slots.{is_place, placed_in, changed_image, image}
-use Rattle.redo_model.specs.Versions.{Made, made_by, without, changed_makers, makers, first_counted, row_in}
+use Rattle.std.proofs.Common.{◌≡◌, ℕ, ◌<◌, ◌≤◌, Bool, true, false, cond, not, ◌&&◌, ◌||◌, eqb, List, [], ◌∷◌, Option, Some, None, refl, sym, ◌∙◌, ap, ap₂, subst, arith, ◌⊎◌, inl, inr, le_trans, eqb-true, ne_eqb, true≢false, eq-eqb}
+use Rattle.seg_words.proofs.Lemmas.{eqb-false, cond-true, cond-false, cases_Bool, and_parts, and_from, and_left, and_right}
+use Rattle.seg_words.specs.Types.{Shape, Slot, UndoAddr, Writer, By, At}
+use Rattle.redo_model.specs.Records.{Record, RowPart, BackRecord}
+use Rattle.redo_model.specs.Model.{Step, Effect, effect_of, written, restored, txn_count, is_active, is_addr, is_by, without_step, standing_steps, standing, newest_on, is_place, placed_in, changed_image, image, Made, made_by, without, changed_makers, makers, first_counted, row_in}
+use Rattle.redo_model.specs.Effects.{Still, Formats, Adds, TakesBack, Cleans}
 use Rattle.redo_laws.proofs.lists.Every.{Every, every-map}
 use Rattle.redo_laws.proofs.steps.OnTop.{is_named, addr_self, off_named, head_named, OnTop}
 use Rattle.redo_laws.proofs.steps.Facts.{StatesOld, Counted, Found, place_of, located, seen, MayOver, HeadOver, BegunBy, StepFits, BackFits, HeadSettled, EffectFits, IsFit, IfSettled, SameCounts, IsClosed, EachOnce}

@@ -1,21 +1,9 @@
 -- Rows at all commits are spread over the row blocks of their table.
-use Rattle.std.proofs.Common.{◌≡◌, ℕ, ◌<◌, ◌≤◌, Bool, true, false, cond, leb, List, [], ◌∷◌, Option, Some, None, sym, ◌∙◌, ap, ap₂, subst, inl, inr}
-use Rattle.std.proofs.lemmas.Bool.{cond-true, cond-false, true≢false, cases_Bool, leb-true, leb-false}
-use Rattle.seg_base.specs.declared.shape.Shape.{Shape}
-use Rattle.seg_base.specs.declared.slot.Kind.TheVariants.{Head}
-use Rattle.seg_base.specs.declared.slot.Slot.{Slot}
-use Rattle.seg_base.specs.declared.slot.UndoAddr.{UndoAddr}
-use Rattle.seg_base.specs.declared.slot.Writer.{Writer}
-use Rattle.redo_record.specs.declared.record.Record.{Record}
-use Rattle.redo_model.specs.Ordinals.{commit_count}
-use Rattle.redo_model.specs.Transactions.{is_active}
-use Rattle.redo_model.specs.Steps.{standing}
-use Rattle.redo_model.specs.Tables.{holds_row, view}
-use Rattle.redo_model.specs.Slots.{image}
-use Rattle.redo_model.specs.Versions.{Made, makers, first_counted, row_in}
-use Rattle.redo_model.specs.Slots.{slot_count}
-use Rattle.redo_model.specs.Versions.{counts, image_at, row_at}
-use Rattle.redo_model.specs.Segments.{under_high, IsRowBlock}
+use Rattle.std.proofs.Common.{◌≡◌, ℕ, ◌<◌, ◌≤◌, Bool, true, false, cond, leb, List, [], ◌∷◌, Option, Some, None, sym, ◌∙◌, ap, ap₂, subst, inl, inr, true≢false, leb-true, leb-false}
+use Rattle.seg_words.proofs.Lemmas.{cond-true, cond-false, cases_Bool}
+use Rattle.seg_words.specs.Types.{Shape, Head, Slot, UndoAddr, Writer}
+use Rattle.redo_model.specs.Records.{Record}
+use Rattle.redo_model.specs.Model.{commit_count, is_active, standing, holds_row, view, image, Made, makers, first_counted, row_in, slot_count, counts, image_at, row_at, under_high, IsRowBlock}
 use Rattle.redo_laws.specs.Views.{RowsAreSpread, ViewOfNone}
 use Rattle.redo_laws.proofs.spread.Spread.{good, head_settled}
 use Rattle.redo_laws.proofs.spread.Views.{ready, IsOpen, view_is_newest, view_of_none}

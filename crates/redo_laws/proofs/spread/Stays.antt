@@ -1,16 +1,10 @@
 -- The row that a slot gives stays where an effect that doesn't count is added.
-use Rattle.std.proofs.Common.{◌≡◌, ℕ, zero, suc, Bool, true, false, cond, eqb, List, [], ◌∷◌, Option, Some, None, refl, sym, ◌∙◌, ap, ap₂}
-use Rattle.std.proofs.lemmas.Bool.{eqb-true, cond-false, and_parts}
-use Rattle.seg_base.specs.declared.slot.Slot.{Slot}
-use Rattle.seg_base.specs.declared.slot.UndoAddr.{UndoAddr}
-use Rattle.seg_base.specs.declared.slot.Writer.{Writer}
-use Rattle.redo_record.specs.declared.record.Record.{Record}
-use Rattle.redo_record.specs.declared.part.RowPart.{RowPart}
-use Rattle.redo_model.specs.Effects.{Step, Effect, Still, Formats, Adds, TakesBack, Cleans, written, restored, part_addr}
-use Rattle.redo_model.specs.Slots.{is_place, placed_in, changed_image, image}
-use Rattle.redo_model.specs.Versions.{Made, made_by, without, changed_makers, makers, first_counted, row_in}
-use Rattle.seg_base.specs.Cleaning.{as_told, number_of_writer, clean_slot}
-use Rattle.redo_model.specs.AllowedRows.{taken_back}
+use Rattle.std.proofs.Common.{◌≡◌, ℕ, zero, suc, Bool, true, false, cond, eqb, List, [], ◌∷◌, Option, Some, None, refl, sym, ◌∙◌, ap, ap₂, eqb-true}
+use Rattle.seg_words.proofs.Lemmas.{cond-false, and_parts}
+use Rattle.seg_words.specs.Types.{Slot, UndoAddr, Writer, as_told, number_of_writer, clean_slot}
+use Rattle.redo_model.specs.Records.{Record, RowPart}
+use Rattle.redo_model.specs.Model.{Step, Effect, written, restored, part_addr, is_place, placed_in, changed_image, image, Made, made_by, without, changed_makers, makers, first_counted, row_in, taken_back}
+use Rattle.redo_model.specs.Effects.{Still, Formats, Adds, TakesBack, Cleans}
 use Rattle.redo_laws.proofs.steps.Facts.{StatesOld, seen}
 
 -- the parts of a step lie on top of each slot that they name, and nowhere else

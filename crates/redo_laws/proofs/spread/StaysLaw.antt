@@ -1,26 +1,13 @@
 -- What a block gives, and what a transaction sees, stays.
-use Rattle.std.proofs.Common.{◌≡◌, ℕ, suc, ◌≤◌, Bool, true, false, cond, not, ◌&&◌, ◌||◌, eqb, List, [], ◌∷◌, Option, Some, None, refl, sym, ◌∙◌, ap, subst, arith, le_trans, le_refl}
-use Rattle.std.proofs.lemmas.Bool.{eqb-true, ne_eqb, cond_both, cond-false, true≢false, and_left, and_right, le-ltb, lt-leb}
-use Rattle.seg_base.specs.declared.shape.Shape.{Shape}
-use Rattle.seg_base.specs.declared.slot.UndoAddr.{UndoAddr}
-use Rattle.seg_base.specs.declared.slot.Writer.{Writer}
-use Rattle.seg_base.specs.declared.slot.Writer.TheVariants.{By, At}
-use Rattle.redo_record.specs.declared.record.Record.{Record}
-use Rattle.redo_model.specs.Effects.{Step, Effect, Still, Formats, Adds, TakesBack, Cleans, effect_of}
-use Rattle.redo_model.specs.Ordinals.{commit_count, is_commit}
-use Rattle.redo_model.specs.Transactions.{is_active}
-use Rattle.redo_model.specs.Steps.{is_addr, is_by, without_step, standing_steps, standing, newest_of}
-use Rattle.redo_model.specs.Tables.{outcome, view}
-use Rattle.redo_model.specs.Slots.{image}
-use Rattle.redo_model.specs.Versions.{makers, row_in}
-use Rattle.redo_model.specs.Lawful.{AreAllowed}
+use Rattle.std.proofs.Common.{◌≡◌, ℕ, suc, ◌≤◌, Bool, true, false, cond, not, ◌&&◌, ◌||◌, eqb, List, [], ◌∷◌, Option, Some, None, refl, sym, ◌∙◌, ap, subst, arith, le_trans, le_refl, eqb-true, ne_eqb, true≢false, le-ltb}
+use Rattle.seg_words.proofs.Lemmas.{cond_both, cond-false, and_left, and_right, lt-leb}
+use Rattle.seg_words.specs.Types.{Shape, UndoAddr, Writer, By, At}
+use Rattle.redo_model.specs.Records.{Record, Commit}
+use Rattle.redo_model.specs.Model.{Step, Effect, effect_of, commit_count, is_commit, is_active, is_addr, is_by, without_step, standing_steps, standing, newest_of, outcome, view, image, makers, row_in, AreAllowed, is_committed_by, changed, table_at, counts, row_at}
+use Rattle.redo_model.specs.Effects.{Still, Formats, Adds, TakesBack, Cleans}
 use Rattle.redo_laws.proofs.lists.Every.{Every, every-map}
 use Rattle.redo_laws.proofs.steps.OnTop.{OnTop}
 use Rattle.redo_laws.proofs.steps.Facts.{StepFits, EffectFits}
-use Rattle.redo_model.specs.Transactions.{is_committed_by}
-use Rattle.redo_model.specs.Tables.{changed, table_at}
-use Rattle.redo_record.specs.declared.record.Record.TheVariants.{Commit}
-use Rattle.redo_model.specs.Versions.{counts, row_at}
 use Rattle.redo_laws.specs.Stays.{IsNotBy, IsNotOf, Later, not_later, one_later, IsQuiet, BlocksStay, ViewsStay}
 use Rattle.redo_laws.proofs.numbers.Known.{known}
 use Rattle.redo_laws.proofs.steps.Held.{own_newest, Tops, tops}

@@ -1,16 +1,10 @@
 -- A view is the union of what the blocks give.
-use Rattle.std.proofs.Common.{◌≡◌, ℕ, ◌≤◌, Bool, true, false, cond, ◌&&◌, ◌||◌, eqb, List, [], ◌∷◌, Option, Some, None, filter, refl, sym, ◌∙◌, ap, inl, inr}
-use Rattle.std.proofs.lemmas.Bool.{eqb-true, eqb-false, cond-true, cond-false, true≢false, cases_Bool, eq-eqb, and_parts, and_from, and_left, and_right}
-use Rattle.seg_base.specs.declared.shape.Shape.{Shape}
-use Rattle.seg_base.specs.declared.slot.Writer.{Writer}
-use Rattle.seg_base.specs.declared.slot.Writer.TheVariants.{By, At}
-use Rattle.redo_record.specs.declared.record.Record.{Record}
-use Rattle.redo_model.specs.Effects.{Step, Effect, Still, Formats, Adds, TakesBack, Cleans, effect_of}
-use Rattle.redo_model.specs.Ordinals.{commit_count}
-use Rattle.redo_model.specs.Transactions.{is_active}
-use Rattle.redo_model.specs.Steps.{standing_steps, standing, newest_on}
-use Rattle.redo_model.specs.Tables.{outcome, view}
-use Rattle.redo_model.specs.Versions.{counts, row_at}
+use Rattle.std.proofs.Common.{◌≡◌, ℕ, ◌≤◌, Bool, true, false, cond, ◌&&◌, ◌||◌, eqb, List, [], ◌∷◌, Option, Some, None, filter, refl, sym, ◌∙◌, ap, inl, inr, eqb-true, true≢false, eq-eqb}
+use Rattle.seg_words.proofs.Lemmas.{eqb-false, cond-true, cond-false, cases_Bool, and_parts, and_from, and_left, and_right}
+use Rattle.seg_words.specs.Types.{Shape, Writer, By, At}
+use Rattle.redo_model.specs.Records.{Record}
+use Rattle.redo_model.specs.Model.{Step, Effect, effect_of, commit_count, is_active, standing_steps, standing, newest_on, outcome, view, counts, row_at}
+use Rattle.redo_model.specs.Effects.{Still, Formats, Adds, TakesBack, Cleans}
 use Rattle.redo_laws.proofs.lists.Every.{Every, every-map, every-filter}
 use Rattle.redo_laws.proofs.steps.Facts.{Counted, Found, located, Told, EffectFits, IsFit, IfSettled, SameCounts, IsClosed, newest_outcome}
 use Rattle.redo_laws.proofs.spread.Spread.{good}

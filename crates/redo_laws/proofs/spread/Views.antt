@@ -1,23 +1,10 @@
 -- The view at all commits, by the steps that stand.
-use Rattle.std.proofs.Common.{◌≡◌, ℕ, suc, ◌<◌, ◌≤◌, Bool, true, false, cond, not, ◌&&◌, ◌||◌, eqb, leb, List, [], ◌∷◌, Option, Some, None, filter, refl, sym, ◌∙◌, ap, ap₂, subst, arith, ◌⊎◌, inl, inr, le_trans}
-use Rattle.std.proofs.lemmas.Bool.{eqb-true, eqb-false, ne_eqb, cond-true, cond-false, true≢false, cases_Bool, eq-eqb, and_parts, and_from, and_left, and_right, or_parts, or_right, lt-ltb, le-leb}
-use Rattle.seg_base.specs.declared.shape.Shape.{Shape}
-use Rattle.seg_base.specs.declared.slot.UndoAddr.{UndoAddr}
-use Rattle.seg_base.specs.declared.slot.Writer.{Writer}
-use Rattle.seg_base.specs.declared.slot.Writer.TheVariants.{By, At}
-use Rattle.redo_record.specs.declared.record.Record.{Record}
-use Rattle.redo_model.specs.Effects.{Step, Effect, Still, Formats, Adds, TakesBack, Cleans, effect_of}
-use Rattle.redo_model.specs.Ordinals.{commit_count, txn_count}
-use Rattle.redo_model.specs.Transactions.{is_active, is_committed_by}
-use Rattle.redo_model.specs.Steps.{is_addr, is_by, all_steps, steps, without_step, standing_steps, standing, newest_of, newest_on, is_backed}
-use Rattle.redo_model.specs.Tables.{outcome, changed, table_at, view}
-use Rattle.redo_model.specs.Versions.{counts}
-use Rattle.redo_model.specs.Lawful.{IsKindAllowed, AreAllowed}
-use Rattle.redo_record.specs.declared.record.Record.TheVariants.{Begin, Insert, Update, Migrate, Return, Delete, Commit, Back, Ended, Move}
-use Rattle.redo_record.specs.declared.transaction.BeginRecord.{BeginRecord}
-use Rattle.redo_record.specs.declared.transaction.CommitRecord.{CommitRecord}
-use Rattle.redo_record.specs.declared.transaction.EndedRecord.{EndedRecord}
-use Rattle.redo_model.specs.Effects.{row_step}
+use Rattle.std.proofs.Common.{◌≡◌, ℕ, suc, ◌<◌, ◌≤◌, Bool, true, false, cond, not, ◌&&◌, ◌||◌, eqb, leb, List, [], ◌∷◌, Option, Some, None, filter, refl, sym, ◌∙◌, ap, ap₂, subst, arith, ◌⊎◌, inl, inr, le_trans, eqb-true, ne_eqb, true≢false, eq-eqb, lt-ltb, le-leb}
+use Rattle.seg_words.proofs.Lemmas.{eqb-false, cond-true, cond-false, cases_Bool, and_parts, and_from, and_left, and_right, or_parts, or_right}
+use Rattle.seg_words.specs.Types.{Shape, UndoAddr, Writer, By, At}
+use Rattle.redo_model.specs.Records.{Record, Begin, Insert, Update, Migrate, Return, Delete, Commit, Back, Ended, Move, BeginRecord, CommitRecord, EndedRecord}
+use Rattle.redo_model.specs.Model.{Step, Effect, effect_of, commit_count, txn_count, is_active, is_committed_by, is_addr, is_by, all_steps, steps, without_step, standing_steps, standing, newest_of, newest_on, is_backed, outcome, changed, table_at, view, counts, IsKindAllowed, AreAllowed, row_step}
+use Rattle.redo_model.specs.Effects.{Still, Formats, Adds, TakesBack, Cleans}
 use Rattle.redo_laws.proofs.lists.Every.{Every, every-map, every-filter, filter-all, filter-swap}
 use Rattle.redo_laws.proofs.steps.Facts.{Counted, MayOver, BegunBy, EffectFits, IsFit, newest_outcome}
 use Rattle.redo_laws.proofs.numbers.Known.{known, Turn, turn}

@@ -1,20 +1,12 @@
 -- Every lawful list keeps it all, by induction on its newest record.
-use Rattle.std.proofs.Common.{◌≡◌, ℕ, suc, ◌≤◌, Bool, true, false, not, List, [], ◌∷◌, refl, sym, ◌∙◌, arith, inl, inr}
-use Rattle.std.proofs.lemmas.Bool.{ne_eqb, cond-true, cond-false, true≢false, eq-eqb, and_parts, not-true}
-use Rattle.seg_base.specs.declared.shape.Shape.{Shape}
-use Rattle.seg_base.specs.declared.slot.Slot.{Slot}
-use Rattle.redo_record.specs.declared.record.Record.{Record}
-use Rattle.redo_record.specs.declared.row.RowBody.{RowBody}
-use Rattle.redo_model.specs.Effects.{Step, Effect, Adds, effect_of, written, row_step, move_step}
-use Rattle.redo_model.specs.Ordinals.{row_count}
-use Rattle.redo_model.specs.Transactions.{is_active, has_ended, has_begun}
-use Rattle.redo_model.specs.Steps.{standing}
-use Rattle.redo_model.specs.Slots.{placed_in, image}
-use Rattle.redo_model.specs.Versions.{Made, made_by, makers}
-use Rattle.redo_model.specs.Lawful.{IsKindAllowed, AreAllowed}
+use Rattle.std.proofs.Common.{◌≡◌, ℕ, suc, ◌≤◌, Bool, true, false, not, List, [], ◌∷◌, refl, sym, ◌∙◌, arith, inl, inr, ne_eqb, true≢false, eq-eqb}
+use Rattle.seg_words.proofs.Lemmas.{cond-true, cond-false, and_parts, not-true}
+use Rattle.seg_words.specs.Types.{Shape, Slot}
+use Rattle.redo_model.specs.Records.{Record, RowBody, Extend, FormatBlock, Lower, Insert, Update, Migrate, Return, Delete, Back, Move, Clean}
+use Rattle.redo_model.specs.Model.{Step, Effect, effect_of, written, row_step, move_step, row_count, is_active, has_ended, has_begun, standing, placed_in, image, Made, made_by, makers, IsKindAllowed, AreAllowed}
+use Rattle.redo_model.specs.Effects.{Adds}
 use Rattle.redo_laws.proofs.lists.Every.{every-map, every-filter}
 use Rattle.redo_laws.proofs.steps.Facts.{EffectFits}
-use Rattle.redo_record.specs.declared.record.Record.TheVariants.{Extend, FormatBlock, Lower, Insert, Update, Migrate, Return, Delete, Back, Move, Clean}
 use Rattle.redo_laws.proofs.numbers.Known.{turn}
 use Rattle.redo_laws.proofs.steps.Held.{effect_held}
 use Rattle.redo_laws.proofs.spread.Spread.{good}

@@ -1,23 +1,12 @@
 -- Prefixes, tables that are there, and what one more record does.
-use Rattle.std.proofs.Common.{◌≡◌, ℕ, true, false, cond, eqb, ltb, List, [], ◌∷◌, length, Option, Some, None, refl, ◌∙◌, subst}
-use Rattle.std.proofs.lemmas.Bool.{or_parts, and_left, cond-false, eq-eqb}
-use Rattle.seg_base.specs.declared.shape.Shape.{Shape}
-use Rattle.seg_base.specs.declared.slot.Slot.{Slot}
-use Rattle.seg_base.specs.declared.slot.ListEntry.{ListEntry}
-use Rattle.seg_base.specs.declared.slot.Writer.{Writer}
-use Rattle.seg_base.specs.declared.slot.Writer.TheVariants.{By, At}
-use Rattle.seg_base.specs.Blocks.{Block}
-use Rattle.redo_record.specs.declared.record.Record.{Record}
-use Rattle.redo_record.specs.declared.record.Record.TheVariants.{Movement, Extend, FormatBlock, Class, Advance, Lower, Insert, Update, Migrate, Return, Delete, Move}
-use Rattle.redo_record.specs.declared.part.RowPart.{RowPart}
-use Rattle.redo_model.specs.Lists.{prefix}
-use Rattle.redo_model.specs.Effects.{Effect, Still, Formats, Adds, TakesBack, Cleans, effect_of, Placed, written, restored}
-use Rattle.redo_model.specs.Slots.{placed_in, slots_reached, entered_in, entered_by, entries_reached, count_entered, changed_image, changed_slot_count, changed_entry, changed_entry_count}
-use Rattle.redo_model.specs.Blocks.{place_all, enter_all, enter_by, changed_slots, changed_entries, slots_of, entries_of}
-use Rattle.redo_model.specs.Segments.{IsTable}
-use Rattle.redo_model.specs.AllowedRows.{MigrateAllowed, migrates_plain, migrates_again, DeleteAllowed, deletes_plain, deletes_migrated}
-use Rattle.redo_model.specs.AllowedMoves.{MoveAllowed, moves_plain, moves_to_body, moves_migrated}
-use Rattle.redo_model.specs.Lawful.{IsKindAllowed, AreAllowed}
+use Rattle.std.proofs.Common.{◌≡◌, ℕ, true, false, cond, eqb, ltb, List, [], ◌∷◌, length, Option, Some, None, refl, ◌∙◌, subst, eq-eqb}
+use Rattle.seg_words.proofs.Lemmas.{or_parts, and_left, cond-false}
+use Rattle.seg_words.specs.Types.{Shape, Slot, ListEntry, Writer, By, At, Block}
+use Rattle.redo_model.specs.Records.{Record, Movement, Extend, FormatBlock, Class, Advance, Lower, Insert, Update, Migrate, Return, Delete, Move, RowPart}
+use Rattle.redo_model.specs.Model.{prefix, Effect, effect_of, Placed, written, restored, placed_in, slots_reached, entered_in, entered_by, entries_reached, count_entered, changed_image, changed_slot_count, changed_entry, changed_entry_count, place_all, enter_all, enter_by, changed_slots, changed_entries, slots_of, entries_of, IsTable, MigrateAllowed, DeleteAllowed, MoveAllowed, IsKindAllowed, AreAllowed}
+use Rattle.redo_model.specs.Effects.{Still, Formats, Adds, TakesBack, Cleans}
+use Rattle.redo_model.specs.AllowedRows.{migrates_plain, migrates_again, deletes_plain, deletes_migrated}
+use Rattle.redo_model.specs.AllowedMoves.{moves_plain, moves_to_body, moves_migrated}
 use Rattle.redo_laws.specs.Tables.{PrefixesAreLawful}
 use Rattle.redo_laws.specs.Added.{any_in, is_change, OthersAreLeft, MovesKeepTables, ImagesAfterOne}
 

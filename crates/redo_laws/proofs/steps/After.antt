@@ -1,25 +1,13 @@
 -- The images of a slot after a step and after a taking back, and that every record names a table that is there.
-use Rattle.std.proofs.Common.{◌≡◌, ℕ, suc, ◌≤◌, true, false, cond, ◌||◌, eqb, List, [], ◌∷◌, map, Option, Some, None, refl, sym, ◌∙◌, ap, ap₂, subst, arith, le_trans, le_refl}
-use Rattle.std.proofs.lemmas.Bool.{eqb-true, true≢false, and_parts}
-use Rattle.seg_base.specs.declared.shape.Shape.{Shape}
-use Rattle.seg_base.specs.declared.slot.Slot.{Slot}
-use Rattle.redo_record.specs.declared.record.Record.{Record}
-use Rattle.redo_record.specs.declared.part.RowPart.{RowPart}
-use Rattle.redo_record.specs.declared.row.BackRecord.{BackRecord}
-use Rattle.redo_model.specs.Effects.{Step, Effect, Still, Formats, Adds, TakesBack, Cleans, effect_of, written, restored, part_addr}
-use Rattle.redo_model.specs.Ordinals.{txn_count}
-use Rattle.redo_model.specs.Transactions.{is_active}
-use Rattle.redo_model.specs.Steps.{is_by, standing_steps, standing, newest_of}
-use Rattle.redo_model.specs.Slots.{is_place, placed_in, changed_image, image}
-use Rattle.redo_model.specs.Versions.{Made, made_by, without, changed_makers, makers}
-use Rattle.redo_model.specs.AllowedRows.{taken_back}
-use Rattle.redo_model.specs.Lawful.{IsKindAllowed, AreAllowed}
+use Rattle.std.proofs.Common.{◌≡◌, ℕ, suc, ◌≤◌, true, false, cond, ◌||◌, eqb, List, [], ◌∷◌, map, Option, Some, None, refl, sym, ◌∙◌, ap, ap₂, subst, arith, le_trans, le_refl, eqb-true, true≢false}
+use Rattle.seg_words.proofs.Lemmas.{and_parts}
+use Rattle.seg_words.specs.Types.{Shape, Slot}
+use Rattle.redo_model.specs.Records.{Record, RowPart, BackRecord, Table, Insert, Update, Migrate, Return, Delete, Move, Back}
+use Rattle.redo_model.specs.Model.{Step, Effect, effect_of, written, restored, part_addr, txn_count, is_active, is_by, standing_steps, standing, newest_of, is_place, placed_in, changed_image, image, Made, made_by, without, changed_makers, makers, taken_back, IsKindAllowed, AreAllowed, images, IsTable, table_count}
+use Rattle.redo_model.specs.Effects.{Still, Formats, Adds, TakesBack, Cleans}
 use Rattle.redo_laws.proofs.lists.Every.{Every, every-map, every-filter}
 use Rattle.redo_laws.proofs.steps.OnTop.{is_named, off_named, OnTop}
 use Rattle.redo_laws.proofs.steps.Facts.{StatesOld, BackFits, EffectFits}
-use Rattle.redo_record.specs.declared.record.Record.TheVariants.{Table, Insert, Update, Migrate, Return, Delete, Move, Back}
-use Rattle.redo_model.specs.Versions.{images}
-use Rattle.redo_model.specs.Segments.{IsTable, table_count}
 use Rattle.redo_laws.specs.Added.{names_slot, ImagesAdded, ImagesBack, ImagesAfter, ImagesAfterSteps}
 use Rattle.redo_laws.specs.Tables.{RecordsNameTables, table_of}
 use Rattle.redo_laws.proofs.steps.Adding.{named}

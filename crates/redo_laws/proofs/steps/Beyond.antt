@@ -1,15 +1,10 @@
 -- Slots and entries past the last are as new ones.
-use Rattle.std.proofs.Common.{◌≡◌, ℕ, suc, ◌≤◌, max, true, false, cond, ◌&&◌, eqb, List, [], ◌∷◌, refl, ◌∙◌, ap, arith}
-use Rattle.std.proofs.lemmas.Bool.{ne_eqb, cond-false}
-use Rattle.seg_base.specs.declared.slot.Slot.{Slot}
-use Rattle.seg_base.specs.Blocks.{new_slot}
-use Rattle.seg_base.specs.Cleaning.{clean_slot}
-use Rattle.redo_record.specs.declared.record.Record.{Record}
-use Rattle.redo_record.specs.declared.part.RowPart.{RowPart}
-use Rattle.redo_model.specs.Effects.{Step, Effect, Still, Formats, Adds, TakesBack, Cleans, effect_of, Placed, written, restored, part_addr}
-use Rattle.redo_model.specs.Slots.{placed_in, changed_image, image}
-use Rattle.redo_model.specs.Versions.{Made, made_by, without, changed_makers, makers}
-use Rattle.redo_model.specs.Slots.{slots_reached, changed_slot_count, slot_count}
+use Rattle.std.proofs.Common.{◌≡◌, ℕ, suc, ◌≤◌, max, true, false, cond, ◌&&◌, eqb, List, [], ◌∷◌, refl, ◌∙◌, ap, arith, ne_eqb}
+use Rattle.seg_words.proofs.Lemmas.{cond-false}
+use Rattle.seg_words.specs.Types.{Slot, new_slot, clean_slot}
+use Rattle.redo_model.specs.Records.{Record, RowPart}
+use Rattle.redo_model.specs.Model.{Step, Effect, effect_of, Placed, written, restored, part_addr, placed_in, changed_image, image, Made, made_by, without, changed_makers, makers, slots_reached, changed_slot_count, slot_count}
+use Rattle.redo_model.specs.Effects.{Still, Formats, Adds, TakesBack, Cleans}
 
 beyond_placed : (ps : List Placed) (b k n : ℕ) (i : Slot) → slots_reached ps b n ≤ k → (placed_in ps b k i ≡ i) × (n ≤ k)
 beyond_placed [] b k n i l = (refl, l)

@@ -1,22 +1,9 @@
 -- Where rows are, and what a step, a taking back and a formatting need for rows to be in one place each.
 use Rattle.std.proofs.Common.{◌≡◌, ℕ, suc, ◌≤◌, Bool, true, false, cond, ◌&&◌, eqb, List, [], ◌∷◌, Option, Some, None}
-use Rattle.seg_base.specs.declared.shape.Shape.{Shape}
-use Rattle.seg_base.specs.declared.slot.Slot.{Slot}
-use Rattle.seg_base.specs.declared.slot.UndoAddr.{UndoAddr}
-use Rattle.seg_base.specs.declared.slot.Writer.{Writer}
-use Rattle.seg_base.specs.declared.slot.Writer.TheVariants.{By, At}
-use Rattle.redo_record.specs.declared.record.Record.{Record}
-use Rattle.redo_record.specs.declared.part.RowPart.{RowPart}
-use Rattle.redo_record.specs.declared.row.BackRecord.{BackRecord}
-use Rattle.redo_model.specs.Effects.{Step, Effect, Still, Formats, Adds, TakesBack, Cleans, effect_of, written}
-use Rattle.redo_model.specs.Ordinals.{commit_count, txn_count}
-use Rattle.redo_model.specs.Transactions.{is_active}
-use Rattle.redo_model.specs.Steps.{is_addr, standing, newest_of, newest_on}
-use Rattle.redo_model.specs.Tables.{holds_row, outcome}
-use Rattle.redo_model.specs.Slots.{placed_in, image}
-use Rattle.redo_model.specs.Versions.{Made, makers, first_counted, row_in}
-use Rattle.redo_model.specs.Lawful.{IsAllowed}
-use Rattle.redo_model.specs.AllowedRows.{taken_back}
+use Rattle.seg_words.specs.Types.{Shape, Slot, UndoAddr, Writer, By, At}
+use Rattle.redo_model.specs.Records.{Record, RowPart, BackRecord}
+use Rattle.redo_model.specs.Model.{Step, Effect, effect_of, written, commit_count, txn_count, is_active, is_addr, standing, newest_of, newest_on, holds_row, outcome, placed_in, image, Made, makers, first_counted, row_in, IsAllowed, taken_back}
+use Rattle.redo_model.specs.Effects.{Still, Formats, Adds, TakesBack, Cleans}
 use Rattle.redo_laws.proofs.lists.Every.{Every}
 use Rattle.redo_laws.proofs.steps.OnTop.{is_named}
 

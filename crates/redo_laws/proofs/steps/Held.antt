@@ -1,17 +1,10 @@
 -- What every list keeps in which each effect fits.
-use Rattle.std.proofs.Common.{◌≡◌, ℕ, suc, Bool, true, false, cond, not, eqb, List, [], ◌∷◌, Option, Some, None, filter, refl, sym, ◌∙◌, ap, subst, ◌⊎◌, inl, inr}
-use Rattle.std.proofs.lemmas.Bool.{eqb-true, eqb-false, true≢false, cases_Bool, eq-eqb}
-use Rattle.seg_base.specs.declared.slot.UndoAddr.{UndoAddr}
-use Rattle.seg_base.specs.declared.slot.Writer.{Writer}
-use Rattle.seg_base.specs.declared.slot.Writer.TheVariants.{By, At}
-use Rattle.redo_record.specs.declared.record.Record.{Record}
-use Rattle.redo_record.specs.declared.part.RowPart.{RowPart}
-use Rattle.redo_model.specs.Effects.{Step, Effect, Still, Formats, Adds, TakesBack, Cleans, part_addr}
-use Rattle.redo_model.specs.Ordinals.{txn_count}
-use Rattle.redo_model.specs.Transactions.{is_active}
-use Rattle.redo_model.specs.Steps.{is_addr, is_by, without_step, standing_steps, standing, newest_of}
-use Rattle.redo_model.specs.Slots.{is_place}
-use Rattle.redo_model.specs.Versions.{Made, made_by, without, changed_makers, makers}
+use Rattle.std.proofs.Common.{◌≡◌, ℕ, suc, Bool, true, false, cond, not, eqb, List, [], ◌∷◌, Option, Some, None, filter, refl, sym, ◌∙◌, ap, subst, ◌⊎◌, inl, inr, eqb-true, true≢false, eq-eqb}
+use Rattle.seg_words.proofs.Lemmas.{eqb-false, cases_Bool}
+use Rattle.seg_words.specs.Types.{UndoAddr, Writer, By, At}
+use Rattle.redo_model.specs.Records.{Record, RowPart}
+use Rattle.redo_model.specs.Model.{Step, Effect, part_addr, txn_count, is_active, is_addr, is_by, without_step, standing_steps, standing, newest_of, is_place, Made, made_by, without, changed_makers, makers}
+use Rattle.redo_model.specs.Effects.{Still, Formats, Adds, TakesBack, Cleans}
 use Rattle.redo_laws.specs.Economy.{EachStep}
 use Rattle.redo_laws.proofs.lists.Every.{Every, every-map, every-filter, filter-all, filter-swap}
 use Rattle.redo_laws.proofs.steps.OnTop.{addr_self, addr_same, without_own, off_none, OnTop, on_top_same, on_top_adds, on_top_without, on_top_formats}

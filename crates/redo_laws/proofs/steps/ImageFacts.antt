@@ -1,19 +1,11 @@
 -- A fact of images by the block in which they stand: where each new image of an allowed record has it, so has every image of
 -- every slot, and every old image that a standing record states.
-use Rattle.std.proofs.Common.{◌≡◌, ℕ, true, false, cond, eqb, List, [], ◌∷◌, refl, sym, subst}
-use Rattle.std.proofs.lemmas.Bool.{eqb-true, and_parts}
-use Rattle.seg_base.specs.declared.shape.Shape.{Shape}
-use Rattle.seg_base.specs.declared.slot.Slot.{Slot}
-use Rattle.seg_base.specs.Blocks.{new_slot}
-use Rattle.seg_base.specs.Cleaning.{clean_slot}
-use Rattle.redo_record.specs.declared.record.Record.{Record}
-use Rattle.redo_record.specs.declared.part.RowPart.{RowPart}
-use Rattle.redo_record.specs.declared.part.BackPart.{BackPart}
-use Rattle.redo_model.specs.Effects.{Step, Effect, Still, Formats, Adds, TakesBack, Cleans, effect_of, Placed, written, restored}
-use Rattle.redo_model.specs.Steps.{standing_steps, standing}
-use Rattle.redo_model.specs.Slots.{is_place, placed_in, changed_image, image}
-use Rattle.redo_model.specs.AllowedRows.{taken_back}
-use Rattle.redo_model.specs.Lawful.{AreAllowed}
+use Rattle.std.proofs.Common.{◌≡◌, ℕ, true, false, cond, eqb, List, [], ◌∷◌, refl, sym, subst, eqb-true}
+use Rattle.seg_words.proofs.Lemmas.{and_parts}
+use Rattle.seg_words.specs.Types.{Shape, Slot, new_slot, clean_slot}
+use Rattle.redo_model.specs.Records.{Record, RowPart, BackPart}
+use Rattle.redo_model.specs.Model.{Step, Effect, effect_of, Placed, written, restored, standing_steps, standing, is_place, placed_in, changed_image, image, taken_back, AreAllowed}
+use Rattle.redo_model.specs.Effects.{Still, Formats, Adds, TakesBack, Cleans}
 use Rattle.redo_laws.proofs.lists.Every.{Every, every-map, every-filter}
 use Rattle.redo_laws.proofs.steps.Facts.{StatesOld, BackFits, EffectFits}
 use Rattle.redo_laws.proofs.steps.Held.{newest_has}

@@ -1,13 +1,9 @@
 -- An active transaction's steps lie on top of each slot that they name, the newest first.
-use Rattle.std.proofs.Common.{◌≡◌, ℕ, suc, Bool, true, false, cond, not, ◌&&◌, ◌||◌, eqb, List, [], ◌∷◌, refl, sym, ◌∙◌, ap, subst, inl, inr}
-use Rattle.std.proofs.lemmas.Bool.{eqb-true, cond-false, true≢false, cases_Bool, eq-eqb, and_parts, and_from, or_parts}
-use Rattle.seg_base.specs.declared.slot.UndoAddr.{UndoAddr}
-use Rattle.seg_base.specs.declared.slot.Writer.TheVariants.{By}
-use Rattle.redo_record.specs.declared.part.RowPart.{RowPart}
-use Rattle.redo_model.specs.Effects.{Step, part_addr}
-use Rattle.redo_model.specs.Steps.{is_addr}
-use Rattle.redo_model.specs.Slots.{is_place}
-use Rattle.redo_model.specs.Versions.{Made, made_by, without}
+use Rattle.std.proofs.Common.{◌≡◌, ℕ, suc, Bool, true, false, cond, not, ◌&&◌, ◌||◌, eqb, List, [], ◌∷◌, refl, sym, ◌∙◌, ap, subst, inl, inr, eqb-true, true≢false, eq-eqb}
+use Rattle.seg_words.proofs.Lemmas.{cond-false, cases_Bool, and_parts, and_from, or_parts}
+use Rattle.seg_words.specs.Types.{UndoAddr, By}
+use Rattle.redo_model.specs.Records.{RowPart}
+use Rattle.redo_model.specs.Model.{Step, part_addr, is_addr, is_place, Made, made_by, without}
 use Rattle.redo_laws.proofs.lists.Every.{Every, every-map, filter-all, filter-swap}
 
 abbrev pub is_named : List RowPart → ℕ → ℕ → Bool

@@ -1,24 +1,9 @@
 -- Undo blocks in a lawful list: addresses are given in order, active transactions keep their parts, blocks don't overflow.
-use Rattle.std.proofs.Common.{◌≡◌, ◌⊎◌, ℕ, suc, ◌+◌, ◌<◌, ◌≤◌, Bool, true, false, cond, not, ◌||◌, eqb, ltb, List, [], ◌∷◌, ◌++◌, length, Option, Some, None, find, refl, sym, ◌∙◌, ap, ap₂, subst, arith, inl, inr, length-append, zero-add}
-use Rattle.std.proofs.lemmas.Bool.{cond_both, cond-true, cond-false, cases_Bool, eqb-true, ne_eqb, eq-eqb, ltb-false, and_left, and_right, not-true, or_cases, or_left, or_right, true≢false}
-use Rattle.std.proofs.lemmas.List.Sums.{sum_by-append}
-use Rattle.std.specs.List.{sum_by}
-use Rattle.seg_base.specs.declared.shape.Shape.{Shape}
-use Rattle.seg_base.specs.declared.slot.UndoAddr.{UndoAddr}
-use Rattle.seg_base.specs.declared.slot.Writer.{Writer}
-use Rattle.seg_base.specs.declared.slot.Writer.TheVariants.{By, At}
-use Rattle.redo_record.specs.declared.record.Record.{Record}
-use Rattle.redo_record.specs.declared.record.Record.TheVariants.{Begin, Reuse, Insert, Update, Migrate, Return, Delete, Commit, Back, Ended, Move}
-use Rattle.redo_record.specs.declared.part.RowPart.{RowPart}
-use Rattle.redo_record.specs.declared.transaction.ReuseRecord.{ReuseRecord}
-use Rattle.redo_model.specs.Effects.{Step, row_step, move_step}
-use Rattle.redo_model.specs.Ordinals.{txn_count}
-use Rattle.redo_model.specs.Transactions.{is_active}
-use Rattle.redo_model.specs.Steps.{is_addr, is_by, standing, without_step}
-use Rattle.redo_model.specs.Undo.{Undone, part_size, parts_size, undone, undo_parts, undo_used, current_undo, undo_sequence, lesser, least_active, undo_holder, has_holder, ring_after, next_undo}
-use Rattle.redo_model.specs.AllowedRows.{StatesUndo}
-use Rattle.redo_model.specs.AllowedTransactions.{ReuseAllowed}
-use Rattle.redo_model.specs.Lawful.{IsKindAllowed}
+use Rattle.std.proofs.Common.{◌≡◌, ◌⊎◌, ℕ, suc, ◌+◌, ◌<◌, ◌≤◌, Bool, true, false, cond, not, ◌||◌, eqb, ltb, List, [], ◌∷◌, ◌++◌, length, Option, Some, None, find, refl, sym, ◌∙◌, ap, ap₂, subst, arith, inl, inr, length-append, zero-add, eqb-true, ne_eqb, eq-eqb, ltb-false, true≢false, sum_by}
+use Rattle.seg_words.proofs.Lemmas.{cond_both, cond-true, cond-false, cases_Bool, and_left, and_right, not-true, or_cases, or_left, or_right, sum_by-append}
+use Rattle.seg_words.specs.Types.{Shape, UndoAddr, Writer, By, At}
+use Rattle.redo_model.specs.Records.{Record, Begin, Reuse, Insert, Update, Migrate, Return, Delete, Commit, Back, Ended, Move, RowPart, ReuseRecord}
+use Rattle.redo_model.specs.Model.{Step, row_step, move_step, txn_count, is_active, is_addr, is_by, standing, without_step, Undone, part_size, parts_size, undone, undo_parts, undo_used, current_undo, undo_sequence, lesser, least_active, undo_holder, has_holder, ring_after, next_undo, StatesUndo, ReuseAllowed, IsKindAllowed}
 use Rattle.redo_laws.proofs.lists.Every.{Every, every-map, every-filter}
 use Rattle.redo_laws.proofs.steps.Facts.{BegunBy}
 use Rattle.redo_laws.proofs.numbers.Known.{Turn, turn}

@@ -1,16 +1,10 @@
 -- Undo is enough in a lawful list.
-use Rattle.std.proofs.Common.{◌≡◌, suc, ◌<◌, true, false, ◌&&◌, eqb, ltb, List, [], ◌∷◌, sym, ◌∙◌, ap, subst, arith, inl, inr}
-use Rattle.std.proofs.lemmas.Bool.{eqb-true, cond-true, cond-false, true≢false, cases_Bool, and_parts, or_cases, ltb-true}
-use Rattle.seg_base.specs.declared.shape.Shape.{Shape}
-use Rattle.seg_base.specs.declared.slot.UndoAddr.{UndoAddr}
-use Rattle.redo_record.specs.declared.record.Record.{Record}
-use Rattle.redo_model.specs.Effects.{Step, part_addr}
-use Rattle.redo_model.specs.Transactions.{is_active}
-use Rattle.redo_model.specs.Steps.{is_addr, standing}
-use Rattle.redo_model.specs.Lawful.{IsKindAllowed, AreAllowed}
+use Rattle.std.proofs.Common.{◌≡◌, suc, ◌<◌, true, false, ◌&&◌, eqb, ltb, List, [], ◌∷◌, sym, ◌∙◌, ap, subst, arith, inl, inr, eqb-true, true≢false, ltb-true}
+use Rattle.seg_words.proofs.Lemmas.{cond-true, cond-false, cases_Bool, and_parts, or_cases}
+use Rattle.seg_words.specs.Types.{Shape, UndoAddr}
+use Rattle.redo_model.specs.Records.{Record, Reuse}
+use Rattle.redo_model.specs.Model.{Step, part_addr, is_active, is_addr, standing, IsKindAllowed, AreAllowed, undo_sequence, undo_parts, is_reused}
 use Rattle.redo_laws.proofs.lists.Every.{Every}
-use Rattle.redo_record.specs.declared.record.Record.TheVariants.{Reuse}
-use Rattle.redo_model.specs.Undo.{undo_sequence, undo_parts, is_reused}
 use Rattle.redo_laws.specs.Economy.{EachStep, HaveOwnUndo, IsKept, UndoIsEnough}
 use Rattle.redo_laws.proofs.steps.Held.{Distinct}
 use Rattle.redo_laws.proofs.spread.Spread.{good}

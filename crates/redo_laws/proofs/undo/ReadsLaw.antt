@@ -1,16 +1,10 @@
 -- What the undo address of an image leads to.
-use Rattle.std.proofs.Common.{◌≡◌, ℕ, zero, suc, ◌+◌, ◌≤◌, Bool, true, false, cond, ◌&&◌, ◌||◌, eqb, ltb, List, [], ◌∷◌, ◌++◌, length, map, Option, Some, None, refl, sym, ◌∙◌, ap, ap₂, subst, arith, inl, inr}
-use Rattle.std.proofs.lemmas.Bool.{cond-true, cases_Bool, eqb-true, ltb-false, le-ltb, eq-eqb}
-use Rattle.seg_base.specs.declared.shape.Shape.{Shape}
-use Rattle.seg_base.specs.declared.slot.UndoAddr.{UndoAddr}
-use Rattle.redo_record.specs.declared.record.Record.{Record}
-use Rattle.redo_record.specs.declared.record.Record.TheVariants.{Reuse, Insert, Update, Migrate, Return, Delete, Back, Move}
-use Rattle.redo_record.specs.declared.part.RowPart.{RowPart}
-use Rattle.redo_model.specs.Effects.{Step, Effect, Adds, effect_of, row_step, move_step}
-use Rattle.redo_model.specs.Steps.{standing}
-use Rattle.redo_model.specs.Versions.{Made, makers}
-use Rattle.redo_model.specs.Undo.{Undone, part_size, undone, undone_after, emptied_by, undo_parts, undo_sequence, is_reused, HeldPart, held_by, held_after, kept_by, undo_held, held_at}
-use Rattle.redo_model.specs.Lawful.{AreAllowed}
+use Rattle.std.proofs.Common.{◌≡◌, ℕ, zero, suc, ◌+◌, ◌≤◌, Bool, true, false, cond, ◌&&◌, ◌||◌, eqb, ltb, List, [], ◌∷◌, ◌++◌, length, map, Option, Some, None, refl, sym, ◌∙◌, ap, ap₂, subst, arith, inl, inr, eqb-true, ltb-false, le-ltb, eq-eqb}
+use Rattle.seg_words.proofs.Lemmas.{cond-true, cases_Bool}
+use Rattle.seg_words.specs.Types.{Shape, UndoAddr}
+use Rattle.redo_model.specs.Records.{Record, Reuse, Insert, Update, Migrate, Return, Delete, Back, Move, RowPart}
+use Rattle.redo_model.specs.Model.{Step, Effect, effect_of, row_step, move_step, standing, Made, makers, Undone, part_size, undone, undone_after, emptied_by, undo_parts, undo_sequence, is_reused, HeldPart, held_by, held_after, kept_by, undo_held, held_at, AreAllowed, is_active}
+use Rattle.redo_model.specs.Effects.{Adds}
 use Rattle.redo_laws.specs.Chain.{EachMade, IsStated, IsStatedIn}
 use Rattle.redo_laws.specs.Reads.{StandAt, IsThere, LeadsTo, IsPresent, UndoIsRead}
 use Rattle.redo_laws.proofs.lists.Every.{Every, every-map, every-filter}
@@ -19,7 +13,6 @@ use Rattle.redo_laws.proofs.links.ChainLaw.{slots_are_chains}
 use Rattle.redo_laws.proofs.undo.Economy.{InUse}
 use Rattle.redo_laws.proofs.spread.Whole.{whole}
 use Rattle.redo_laws.specs.Economy.{EachStep}
-use Rattle.redo_model.specs.Transactions.{is_active}
 
 -- sizes
 

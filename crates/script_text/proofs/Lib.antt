@@ -1,0 +1,11 @@
+pub mod Cuts
+pub mod LabelSets
+pub mod LinesSaid
+pub mod Numbers
+pub mod PrintedLines
+pub mod RowsFit
+pub mod RowsSaid
+pub mod ScheduleSaid
+pub mod ScriptFits
+pub mod ScriptSaid
+pub mod Spellings

@@ -1,0 +1,21 @@
+//! Scripts of sessions: from bytes to statements, and back.
+#![tactic(auto)]
+
+mod draft;
+mod form;
+mod labels;
+mod parsing;
+mod pieces;
+mod printing;
+mod row;
+mod schedule;
+mod scripts;
+mod statement;
+mod why;
+
+pub use form::{ALL_FORMS, BUILT_FORMS, Form, Forms};
+pub use parsing::parse;
+pub use printing::print;
+pub use scripts::Scripts;
+pub use statement::{Statement, Target, Turns};
+pub use why::{ScriptFault, Why};

@@ -1,7 +1,9 @@
 -- Where bytes are cut, and the first part of a split.
-use Rattle.std.proofs.Common.{◌≡◌, ℕ, zero, suc, ◌+◌, ◌-◌, ◌<◌, Bool, true, false, cond, List, [], ◌∷◌, ◌++◌, length, get_or, take, drop, refl, ap, sym, ◌∙◌, arith, Option, Some, None, eqb, eq-eqb, add-one}
+use Rattle.std.proofs.Common.{◌≡◌, ℕ, zero, suc, ◌+◌, ◌-◌, ◌<◌, ◌≤◌, Bool, true, false, cond, List, [], ◌∷◌, ◌++◌, length, get_or, take, drop, refl, ap, sym, ◌∙◌, arith, Option, Some, None, eqb, eq-eqb, add-one}
 use Rattle.std.proofs.lemmas.Bool.{ne_eqb, eqb-true}
 use Rattle.std.proofs.lemmas.List.{take_rest}
+use Rattle.std.proofs.lemmas.List.Splits.{length-slice_split}
+use Rattle.std.proofs.lemmas.List.Sums.{count_by-le-length}
 use Rattle.std.specs.Prelude.{unwrap_or}
 use Rattle.std.specs.List.{onto_first, slice_split}
 use Rattle.std.specs.Str.Lines.{lines, lines_of_parts, strip_carriage_return}
@@ -140,3 +142,16 @@ left_shorter c (b ∷ bs) =
       | true ↦ omega arith
       | false ↦ omega arith
     ]
+
+-- ---- how many lines
+parts_few : (parts : List (List ℕ)) → length (lines_of_parts parts) ≤ length parts
+parts_few [] = omega arith
+parts_few (x ∷ []) = elim (eqb (length x) 0) as (λ t. length (cond {A = List (List ℕ)} t [] (x ∷ [])) ≤ 1) [ true ↦ omega arith | false ↦ omega arith ]
+parts_few (x ∷ y ∷ more) = let r = parts_few (y ∷ more) in omega (arith, r)
+
+pub few_lines : (text : List ℕ) → length (lines text) ≤ length text + 1
+few_lines text =
+    let a = parts_few (slice_split (λ b. eqb b 10) text) in
+    let b = length-slice_split (λ b. eqb b 10) text in
+    let d = count_by-le-length (λ b. eqb b 10) text in
+    omega (arith, a, b, d)

@@ -5,6 +5,7 @@ pub mod Numbers
 pub mod PrintedLines
 pub mod RowsFit
 pub mod RowsSaid
+pub mod RowsSpelled
 pub mod ScheduleSaid
 pub mod ScriptFits
 pub mod ScriptSaid

@@ -41,8 +41,8 @@ sessions_pass forms n (session ∷ sessions) more few h =
     let tail = statement_lines session ++ (session_lines (n + 1) sessions ++ more) in
     let line = with_rest (word_of Session) (Some (decimal n)) in
     ap any_passed (append_assoc (line ++ 10 ∷ []) (statement_lines session ++ session_lines (n + 1) sessions) more
-      ∙ ap (λ z. (line ++ 10 ∷ []) ++ z) (append_assoc (statement_lines session) (session_lines (n + 1) sessions) more)
-      ∙ append_assoc line (10 ∷ []) tail)
+    ∙ ap (λ z. (line ++ 10 ∷ []) ++ z) (append_assoc (statement_lines session) (session_lines (n + 1) sessions) more)
+    ∙ append_assoc line (10 ∷ []) tail)
     ∙ line_passes Session (Some (decimal n)) tail (decimal_is_text n (omega (arith, few)))
     ∙ statements_pass forms session (session_lines (n + 1) sessions ++ more) h.0
     ∙ sessions_pass forms (n + 1) sessions more (omega (arith, few)) h.1

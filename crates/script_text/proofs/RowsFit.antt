@@ -66,6 +66,7 @@ ordinal_within most n digits h = within (number_of most digits) refl h
     nonzero m true e k = cc
     nonzero zero false e k = cc
     nonzero (suc m) false e k = let same : suc m ≡ n = cc in (omega (arith, same), same)
+
     within : (o : Option ℕ) → number_of most digits ≡ o → option_and_then not_zero o ≡ Some n → (0 < n) × (n ≤ most)
     within None e k = cc
     within (Some m) e k =
@@ -138,21 +139,21 @@ insert_fits : (rest : List ℕ) → list_all is_text_byte rest ≡ true → IfRe
 unfolding insert_of
 insert_fits rest all =
     step (text_behind (cut 32 rest).1 (bytes_behind rest all)) (λ after all_after. step (text_behind (cut 32 after).1 (bytes_behind after all_after)) (λ bytes all_bytes.
-        step (any (label_in (cut 32 after).0)) (λ word _. step (named_fits (cut 32 rest).0) (λ table h. step (named_fits word) (λ label l.
-            step (text_fits bytes all_bytes) (λ text t. done (Fits Insert) (asks.Insert table label text) ((h, l, t), refl)))))))
+    step (any (label_in (cut 32 after).0)) (λ word _. step (named_fits (cut 32 rest).0) (λ table h. step (named_fits word) (λ label l.
+    step (text_fits bytes all_bytes) (λ text t. done (Fits Insert) (asks.Insert table label text) ((h, l, t), refl)))))))
 
 update_fits : (rest : List ℕ) → list_all is_text_byte rest ≡ true → IfRead (update_of rest) (Fits Update)
 unfolding update_of
 update_fits rest all =
     step (text_behind (cut 32 rest).1 (bytes_behind rest all)) (λ after all_after. step (text_behind (cut 32 after).1 (bytes_behind after all_after)) (λ bytes all_bytes.
-        step (any (marked (cut 32 after).0)) (λ word _. step (named_fits (cut 32 rest).0) (λ table h. step (target_fits word) (λ target l.
-            step (text_fits bytes all_bytes) (λ text t. done (Fits Update) (asks.Update table target text) ((h, l, t), refl)))))))
+    step (any (marked (cut 32 after).0)) (λ word _. step (named_fits (cut 32 rest).0) (λ table h. step (target_fits word) (λ target l.
+    step (text_fits bytes all_bytes) (λ text t. done (Fits Update) (asks.Update table target text) ((h, l, t), refl)))))))
 
 delete_fits : (rest : List ℕ) → IfRead (delete_of rest) (Fits Delete)
 unfolding delete_of
 delete_fits rest =
     step (any (ok_or (last_word (cut 32 rest).1) NotAStatement)) (λ last _. step (any (marked last)) (λ word _. step (named_fits (cut 32 rest).0) (λ table h.
-        step (target_fits word) (λ target l. done (Fits Delete) (asks.Delete table target) ((h, l), refl)))))
+    step (target_fits word) (λ target l. done (Fits Delete) (asks.Delete table target) ((h, l), refl)))))
 
 one_name_fits : (rest : List ℕ) → IfRead (one_name rest) (λ name. is_name name ≡ true)
 one_name_fits rest = chosen (is_word rest) (named_fits rest) (refused _ NotAStatement)

@@ -74,7 +74,6 @@ fix_value_says table block value h small few =
     let wide : value < 2 ^ 64 = omega arith in
     rw (cut_name table (decimal block ++ 32 ∷ decimal value) h, cut_decimal block (decimal value) big, decimal_is_word value wide, h, number_says 4294967295 block small big, number_says 4294967295 value few wide) refl
 
-
 pub row_says : (s : Statement) → IsSpelled s → row (form_of s) (behind s) ≡ Ok s
 row_says (asks.Table name n) h = table_says name n h.0 h.1
 row_says (asks.Movement table on) h = movement_says table on h

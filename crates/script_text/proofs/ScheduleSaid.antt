@@ -164,11 +164,12 @@ pub turns_all_fit : (forms : Forms) (sessions : ℕ) (before : List Turns) (item
 turns_all_fit forms sessions before [] big on flush h = λ x e. let same : before ≡ x = cc in subst (AllTurns forms sessions) same h
 turns_all_fit forms sessions before (item ∷ items) big on flush h =
     step {P = IsTurns forms sessions} (λ turns e. turns_fit forms sessions item (number_of sessions (cut 120 item).0) (times_of (cut 120 item).1) turns big on (first flush) refl refl (from_or (turns_in sessions item) ScheduleSession turns e))
-        (λ turns t. turns_all_fit forms sessions (before ++ turns ∷ []) items big on (others flush) (turns_push forms sessions before turns h t))
+    (λ turns t. turns_all_fit forms sessions (before ++ turns ∷ []) items big on (others flush) (turns_push forms sessions before turns h t))
   where
     first : MayFlush forms (item ∷ items) → (forms.flushes ≡ true) ⊎ (is_flush item ≡ false)
     first (inl a) = inl a
     first (inr b) = inr (either_false (is_flush item) (list_any is_flush items) b).0
+
     others : MayFlush forms (item ∷ items) → MayFlush forms items
     others (inl a) = inl a
     others (inr b) = inr (either_false (is_flush item) (list_any is_flush items) b).1

@@ -21,7 +21,7 @@ use Rattle.script_text.specs.Forms.{is_open, form_of as form_named}
 use Rattle.script_text.specs.Rows.{row, ◌>>=◌}
 use Rattle.script_text.specs.Schedule.{items_of}
 use Rattle.script_text.specs.Script.{Script}
-use Rattle.script_text.specs.Grammar.{nothing_read, closed_of, script_of, is_passed_over, is_session, is_schedule, is_empty, is_out_of_order, is_just, next_session, session_of, schedule_of, bound, added, rowed, formed, worded, line_of, at_line, goes_on, read_lines}
+use Rattle.script_text.specs.Grammar.{nothing_read, closed_of, script_of, is_passed_over, is_session, is_schedule, is_empty, is_out_of_order, is_just, next_session, session_of, schedule_of, bound, added, rowed, formed, worded, line_of, at_line, goes_on, read_lines, scripts_of}
 use Rattle.script_text.specs.Spelled.{IsStatement, IsSpelled, IsTurns, IsScript, AreNew, labels_of, labels_in, most_sessions, form_of}
 use Rattle.script_text.proofs.RowsFit.{IfRead, step, done, any, chosen, refused, row_fits, Fits, AreTextBytes, bytes_behind, number_within}
 use Rattle.script_text.proofs.ScheduleSaid.{items_fit}
@@ -126,9 +126,9 @@ statement_more forms draft s now h is some b =
       current = all_push (IsStatement forms) draft.current s h.current is;
       count = ap length after ∙ long ∙ counted;
       bound = b.0 ∙ ap (λ z. z ++ labels_of (s ∷ [])) (h.bound ∙ ap labels_in before ∙ labels_last draft.closed draft.current)
-        ∙ append_assoc (labels_in draft.closed) (labels_of draft.current) (labels_of (s ∷ []))
-        ∙ ap (λ z. labels_in draft.closed ++ z) (sym (labels_push draft.current s))
-        ∙ sym (labels_last draft.closed (draft.current ++ s ∷ [])) ∙ ap labels_in (sym after);
+          ∙ append_assoc (labels_in draft.closed) (labels_of draft.current) (labels_of (s ∷ []))
+          ∙ ap (λ z. labels_in draft.closed ++ z) (sym (labels_push draft.current s))
+          ∙ sym (labels_last draft.closed (draft.current ++ s ∷ [])) ∙ ap labels_in (sym after);
       labels = b.1;
       turns = h.turns;
       placed = h.placed;
@@ -349,3 +349,11 @@ read_built forms text draft e = read_fits forms (lines text) draft e
 
 pub read_all : (forms : Forms) (text : List ℕ) (draft : Draft) → read_lines forms nothing_read 0 (lines text) ≡ Ok draft → IsScript ALL_FORMS (script_of draft)
 read_all forms text draft e = script_all forms (script_of draft) (read_built forms text draft e)
+
+-- whatever is read from bytes has a spelling
+of_draft : (forms : Forms) (ls : List (List ℕ)) (script : Script) (r : Result Draft ScriptFault) → read_lines forms nothing_read 0 ls ≡ r → goes_on r (λ draft. Ok (script_of draft)) ≡ Ok script → IsScript forms script
+of_draft forms ls script (Ok draft) is e = let same : script_of draft ≡ script = cc in subst (IsScript forms) same (read_fits forms ls draft is)
+of_draft forms ls script (Err fault) is e = cc
+
+pub scripts_fit : (forms : Forms) (text : List ℕ) (script : Script) → scripts_of forms text ≡ Ok script → IsScript forms script
+scripts_fit forms text script e = of_draft forms (lines text) script (read_lines forms nothing_read 0 (lines text)) refl e

@@ -36,10 +36,11 @@ abbrev Leads : Forms → Draft → List ℕ → Draft → List ℕ → Type 0
 Leads forms draft text now rest = (n : ℕ) → (m : ℕ) × (read_lines forms draft n (lines text) ≡ read_lines forms now m (lines rest))
 
 leads_line : (forms : Forms) (draft now : Draft) (line rest : List ℕ) → list_all is_text_byte line ≡ true → line_of forms draft line ≡ Ok now → Leads forms draft (line ++ 10 ∷ rest) now rest
-leads_line forms draft now line rest all h n =
-    (n + 1,
-      ap (read_lines forms draft n) (lines_front line rest all)
-      ∙ ap (λ (r : Result Draft Why). goes_on (at_line (n + 1) r) (λ d. read_lines forms d (n + 1) (lines rest))) h)
+leads_line forms draft now line rest all h n = (
+  n + 1,
+  ap (read_lines forms draft n) (lines_front line rest all)
+      ∙ ap (λ (r : Result Draft Why). goes_on (at_line (n + 1) r) (λ d. read_lines forms d (n + 1) (lines rest))) h,
+)
 
 leads_then : (forms : Forms) (a b c : Draft) (x y z : List ℕ) → Leads forms a x b y → Leads forms b y c z → Leads forms a x c z
 leads_then forms a b c x y z h k n = let first = h n in let second = k first.0 in (second.0, first.1 ∙ second.1)
@@ -121,10 +122,10 @@ statements_say forms count closed current labels more [] rest some all new =
 statements_say forms count closed current labels more (s ∷ session) rest some all new =
     let line = with_rest (word_of (form_of s)) (behind s) in
     let fresh : AreNew labels (labels_of (s ∷ []) ++ (labels_of session ++ more)) =
-      let P : List (List ℕ) → Type 0 = AreNew labels in
-      subst P (append_assoc (labels_of (s ∷ [])) (labels_of session) more) (subst P (ap (λ z. z ++ more) (labels_cons s session)) new) in
+    let P : List (List ℕ) → Type 0 = AreNew labels in
+    subst P (append_assoc (labels_of (s ∷ [])) (labels_of session) more) (subst P (ap (λ z. z ++ more) (labels_cons s session)) new) in
     let one = leads_line forms (state count closed current labels) (state count closed (current ++ s ∷ []) (labels ++ labels_of (s ∷ []))) line (statement_lines session ++ rest) (statement_is_text s all.0.spelled)
-      (statement_says forms count closed current labels (labels_of session ++ more) s some all.0 fresh) in
+    (statement_says forms count closed current labels (labels_of session ++ more) s some all.0 fresh) in
     let others = statements_say forms count closed (current ++ s ∷ []) (labels ++ labels_of (s ∷ [])) more session rest some all.1 (new_rest labels (labels_of (s ∷ [])) (labels_of session ++ more) fresh) in
     let both = leads_then forms (state count closed current labels) (state count closed (current ++ s ∷ []) (labels ++ labels_of (s ∷ []))) (state count closed ((current ++ s ∷ []) ++ session) ((labels ++ labels_of (s ∷ [])) ++ labels_of session)) (line ++ 10 ∷ (statement_lines session ++ rest)) (statement_lines session ++ rest) rest one others in
     let text : line ++ 10 ∷ (statement_lines session ++ rest) ≡ statement_lines (s ∷ session) ++ rest = spelled_line s session rest in
@@ -193,7 +194,7 @@ sessions_say forms count closed current labels (session ∷ sessions) rest some 
     let both = leads_then forms draft (state (count + 1) (closed ++ current ∷ []) session (labels ++ labels_of session)) (after_sessions count closed current labels (session ∷ sessions)) (session_line (count + 1) ++ (statement_lines session ++ tail)) tail rest one others in
     let P : List ℕ → Type 0 = λ z. Leads forms draft z (after_sessions count closed current labels (session ∷ sessions)) rest in
     let text : session_line (count + 1) ++ (statement_lines session ++ tail) ≡ session_lines (count + 1) (session ∷ sessions) ++ rest =
-      ap (λ z. session_line (count + 1) ++ z) (sym (append_assoc (statement_lines session) (session_lines (count + 1 + 1) sessions) rest)) ∙ sym (append_assoc (session_line (count + 1)) (statement_lines session ++ session_lines (count + 1 + 1) sessions) rest) in
+    ap (λ z. session_line (count + 1) ++ z) (sym (append_assoc (statement_lines session) (session_lines (count + 1 + 1) sessions) rest)) ∙ sym (append_assoc (session_line (count + 1)) (statement_lines session ++ session_lines (count + 1 + 1) sessions) rest) in
     subst P text both
 
 -- what is read then: the same sessions, and nothing scheduled
@@ -248,7 +249,7 @@ script_says forms (session ∷ sessions) schedule h =
     let others = sessions_say forms 1 [] session (labels_of session) sessions (schedule_line schedule) (omega arith) (omega (arith, h.few)) h.statements.1 (new_rest [] (labels_of session) (labels_in sessions) h.labels) in
     let planned = schedule_after forms last schedule end.1 end.3 many turns in
     let text : session_line 1 ++ (statement_lines session ++ tail) ≡ session_lines 1 (session ∷ sessions) ++ schedule_line schedule =
-      ap (λ z. session_line 1 ++ z) (sym (append_assoc (statement_lines session) (session_lines 2 sessions) (schedule_line schedule))) ∙ sym (append_assoc (session_line 1) (statement_lines session ++ session_lines 2 sessions) (schedule_line schedule)) in
+    ap (λ z. session_line 1 ++ z) (sym (append_assoc (statement_lines session) (session_lines 2 sessions) (schedule_line schedule))) ∙ sym (append_assoc (session_line 1) (statement_lines session ++ session_lines 2 sessions) (schedule_line schedule)) in
     let all = leads_then forms nothing_read (state 1 [] session (labels_of session)) (record last { schedule = schedule }) (session_line 1 ++ (statement_lines session ++ tail)) tail [] first (leads_then forms (state 1 [] session (labels_of session)) last (record last { schedule = schedule }) tail (schedule_line schedule) [] others planned) in
     ap (λ z. scripts_of forms z) (sym text)
     ∙ ap (λ (r : Result Draft ScriptFault). goes_on r (λ draft. Ok (script_of draft))) (all 0).1

@@ -4,6 +4,7 @@
 mod draft;
 mod form;
 mod labels;
+mod laws;
 mod parsing;
 mod pieces;
 mod printing;
@@ -11,9 +12,12 @@ mod row;
 mod schedule;
 mod scripts;
 mod statement;
+#[cfg(test)]
+mod tests;
 mod why;
 
 pub use form::{ALL_FORMS, BUILT_FORMS, Form, Forms};
+pub use laws::{one_spelling, scripts_are_spelled};
 pub use parsing::parse;
 pub use printing::print;
 pub use scripts::Scripts;

@@ -66,11 +66,7 @@ fn read_lines(alloc: Global, forms: &Forms, text: &[u8]) -> Result<Draft, Script
 }
 
 /// What the bytes spell where these forms are built, or the first bad line.
-pub(crate) fn parse_forms(
-    alloc: Global,
-    forms: &Forms,
-    text: &[u8],
-) -> Result<Scripts, ScriptFault>
+pub(crate) fn parse_forms(alloc: Global, forms: &Forms, text: &[u8]) -> Result<Scripts, ScriptFault>
     requires { length (lines text.now) < 2 ^ 32 }
     ensures read { Parses result (scripts_of forms.now text.now) }
     ensures built { IfOk result (λ scripts. IsScript forms.now scripts) }

@@ -56,13 +56,7 @@ pub fn last_word(after: Option<&[u8]>) -> Option<&[u8]>
     ensures { option_copied result ≡ last_word (option_copied after.entry) }
 {
     match after {
-        Some(word) => {
-            if is_word(word) {
-                Some(word)
-            } else {
-                None
-            }
-        }
+        Some(word) => { if is_word(word) { Some(word) } else { None } }
         None => None,
     }
 }

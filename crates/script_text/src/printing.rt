@@ -87,12 +87,7 @@ fn put_insert(out: &mut Vec<u8>, table: &[u8], label: &[u8], text: &[u8]) -> Res
     put_word(out, text)
 }
 
-fn put_update(
-    out: &mut Vec<u8>,
-    table: &[u8],
-    target: &Target,
-    text: &[u8],
-) -> Result<(), NoMemory>
+fn put_update(out: &mut Vec<u8>, table: &[u8], target: &Target, text: &[u8]) -> Result<(), NoMemory>
     ensures { OnOk result (out.new.items ≡ out.old.items ++ (codes " " ++ (table.now ++ (codes " " ++ (target_text target.now ++ (codes " " ++ text.now)))))) }
 {
     put_word(out, table)?;
@@ -100,12 +95,7 @@ fn put_update(
     put_word(out, text)
 }
 
-fn put_fix(
-    out: &mut Vec<u8>,
-    table: &[u8],
-    block: u64,
-    value: Option<u32>,
-) -> Result<(), NoMemory>
+fn put_fix(out: &mut Vec<u8>, table: &[u8], block: u64, value: Option<u32>) -> Result<(), NoMemory>
     ensures { OnOk result (out.new.items ≡ out.old.items ++ (codes " " ++ (table.now ++ (codes " " ++ (decimal block ++ value_text value))))) }
 {
     put_word(out, table)?;

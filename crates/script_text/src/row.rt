@@ -13,6 +13,7 @@ use seg_base::{Dba, Name, RowNo, Text};
 use std::alloc::Global;
 
 const NOT_A_STATEMENT: LineFault = LineFault::Bad(Why::NotAStatement);
+
 const BAD_NUMBER: LineFault = LineFault::Bad(Why::BadNumber);
 
 fn named(alloc: Global, word: &[u8]) -> Result<Name, LineFault>
@@ -241,12 +242,7 @@ fn fix_block(alloc: Global, name: &[u8], digits: &[u8]) -> Result<Statement, Lin
     })
 }
 
-fn fix_value(
-    alloc: Global,
-    name: &[u8],
-    digits: &[u8],
-    last: &[u8],
-) -> Result<Statement, LineFault>
+fn fix_value(alloc: Global, name: &[u8], digits: &[u8], last: &[u8]) -> Result<Statement, LineFault>
     ensures { Gives result (fix_value name.now digits.now last.now) }
 {
     let table = named(alloc, name)?;

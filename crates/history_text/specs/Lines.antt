@@ -1,16 +1,15 @@
 -- The text of an entry, line by line, each ended by LF. This engine's own.
-use Rattle.std.specs.Prelude.{ℕ, ◌*◌, Bool, true, false, List, [], ◌∷◌, ◌++◌, length, Option, Some, None, codes}
-use Rattle.std.specs.Fmt.{decimal}
-use Rattle.seg_base.specs.declared.«class».Class.{Class}
-use Rattle.seg_base.specs.declared.«class».Class.TheVariants as classes
+use Rattle.std.specs.Prelude.{ℕ, ◌*◌, Bool, true, false, List, [], ◌∷◌, ◌++◌, length, Option, Some, None, codes, decimal}
+use Rattle.seg_words.specs.Types.{BLOCK_SIZE, Class}
 use Rattle.history_text.specs.declared.entry.Entry.{Entry}
 use Rattle.history_text.specs.declared.outcome.RowOut.{RowOut}
 use Rattle.history_text.specs.declared.outcome.Stop.{Stop}
 use Rattle.history_text.specs.declared.outcome.Stop.TheVariants.{NoFit, Bottom}
 use Rattle.history_text.specs.declared.outcome.Usage.{Usage}
 use Rattle.history_text.specs.declared.outcome.Outcome.{Outcome}
-use Rattle.history_text.specs.declared.outcome.Outcome.TheVariants as led
 use Rattle.history_text.specs.Refusals.{refused_text}
+use Rattle.seg_base.specs.declared.«class».Class.TheVariants as classes
+use Rattle.history_text.specs.declared.outcome.Outcome.TheVariants as led
 
 -- ---- scans
 -- two spaces, the row number, a space, the row's bytes
@@ -61,9 +60,9 @@ usage_counts usage = unformatted_text usage.unformatted ++ usage_quarters usage 
 unfoldable pub usage_marks : Usage → List ℕ
 usage_marks usage = codes " low " ++ decimal usage.low ++ codes " high " ++ decimal usage.high ++ codes " extents " ++ decimal usage.extents ++ codes "\n"
 
--- so many blocks of 4,096 bytes
+-- so many blocks
 abbrev pub bytes_of : ℕ → List ℕ
-bytes_of blocks = codes " " ++ decimal (blocks * 4096)
+bytes_of blocks = codes " " ++ decimal (blocks * BLOCK_SIZE)
 
 unfoldable pub usage_bytes : Usage → List ℕ
 usage_bytes usage =

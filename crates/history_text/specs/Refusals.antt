@@ -1,7 +1,6 @@
 -- The texts of refusals. This engine's own.
-use Rattle.std.specs.Prelude.{ℕ, List, [], ◌∷◌, ◌++◌, codes}
-use Rattle.std.specs.Fmt.{decimal}
-use Rattle.seg_base.specs.declared.slot.UndoAddr.{UndoAddr}
+use Rattle.std.specs.Prelude.{ℕ, List, [], ◌∷◌, ◌++◌, codes, decimal}
+use Rattle.seg_words.specs.Types.{UndoAddr}
 use Rattle.history_text.specs.declared.refusal.Refusal.{Refusal}
 use Rattle.history_text.specs.declared.refusal.Refusal.TheVariants.{NoTable, TableExists, TooManyTables, MovementOff, TransactionOpen, ShrinkBusy, LogFull, NotDataBlock, BadValue, Unbound, NoRow, Busy, Again, NoSlot, NoSpace, MaxExtents, UndoFull, ObjectGone, TooOld, TooOldEntry, NeedsBlock}
 

@@ -1,6 +1,5 @@
 // The text of an entry. Every printed line of a history is made here.
-ghost use Rattle.std.specs.Prelude.{◌≡◌, ◌++◌, IfOk, OnOk, codes};
-ghost use Rattle.std.specs.Fmt.{decimal};
+ghost use Rattle.std.specs.Prelude.{◌≡◌, ◌++◌, IfOk, OnOk, codes, decimal};
 ghost use Rattle.history_text.specs.Lines.{row_line, row_lines, scan_text, switch_text, movement_text, stop_text, shrink_text, released_text, class_text, fixed_text, repaired_text, ordinal_text, outcome_text, entry_text};
 
 use crate::bytes::{put, put_number};

@@ -1,6 +1,5 @@
 // The text of a refusal.
-ghost use Rattle.std.specs.Prelude.{◌≡◌, ◌++◌, OnOk, codes};
-ghost use Rattle.std.specs.Fmt.{decimal};
+ghost use Rattle.std.specs.Prelude.{◌≡◌, ◌++◌, OnOk, codes, decimal};
 ghost use Rattle.history_text.specs.Refusals.{numbers_text, holders_text, holder_text, gone_text, address_text, undo_text, refusal_text, refused_text};
 
 use crate::bytes::{put, put_number};

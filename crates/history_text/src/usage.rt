@@ -1,11 +1,10 @@
 // The two lines of a table's usage.
-ghost use Rattle.std.specs.Prelude.{◌≡◌, ◌++◌, ◌*◌, OnOk, codes};
-ghost use Rattle.std.specs.Fmt.{decimal};
+ghost use Rattle.std.specs.Prelude.{◌≡◌, ◌++◌, ◌*◌, OnOk, codes, decimal};
 ghost use Rattle.history_text.specs.Lines.{usage_text, count_text, unformatted_text, usage_quarters, usage_counts, usage_marks, usage_bytes};
 
 use crate::bytes::{put, put_number};
 use crate::outcome::Usage;
-use seg_base::{Name, NoMemory};
+use seg_base::{BLOCK_SIZE, Name, NoMemory};
 
 /// Adds how many blocks are kept as one class.
 #[tactic(auto, unfolding(crate::specs::Lines::count_text))]
@@ -57,10 +56,10 @@ fn put_usage_marks(out: &mut Vec<u8>, usage: &Usage) -> Result<(), NoMemory>
 
 /// Adds a space and the bytes of so many blocks.
 fn put_bytes_of(out: &mut Vec<u8>, blocks: u32) -> Result<(), NoMemory>
-    ensures { OnOk result (out.new.items ≡ out.old.items ++ (codes " " ++ decimal (blocks * 4096))) }
+    ensures { OnOk result (out.new.items ≡ out.old.items ++ (codes " " ++ decimal (blocks * BLOCK_SIZE))) }
 {
     put(out, b" ")?;
-    put_number(out, u64::from(blocks) * 4096)
+    put_number(out, u64::from(blocks) * BLOCK_SIZE as u64)
 }
 
 #[tactic(auto, unfolding(crate::specs::Lines::usage_bytes))]

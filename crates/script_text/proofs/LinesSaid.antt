@@ -1,21 +1,9 @@
 -- The lines of a printed script, one by one.
-use Rattle.std.proofs.Common.{◌≡◌, ℕ, suc, zero, ◌+◌, ◌-◌, ◌^◌, ◌≤◌, ◌<◌, ◌&&◌, ◌||◌, ◌⊎◌, not, Bool, true, false, cond, List, [], ◌∷◌, ◌++◌, length, get_or, refl, ap, sym, subst, ◌∙◌, arith, Option, Some, None, Result, Ok, Err, eqb, codes, append_assoc, inl, inr}
-use Rattle.std.proofs.lemmas.Bool.{eqb-true, ne_eqb, true≢false}
-use Rattle.std.proofs.lemmas.Bool.Decides.{nat_tests}
-use Rattle.std.specs.List.{list_all, list_any, AllByRecursion}
-use Rattle.std.specs.Fmt.{decimal}
+use Rattle.std.proofs.Common.{◌≡◌, ℕ, suc, zero, ◌+◌, ◌-◌, ◌^◌, ◌≤◌, ◌<◌, ◌&&◌, ◌||◌, ◌⊎◌, not, Bool, true, false, cond, List, [], ◌∷◌, ◌++◌, length, get_or, refl, ap, sym, subst, ◌∙◌, arith, Option, Some, None, Result, Ok, Err, eqb, codes, append_assoc, inl, inr, eqb-true, ne_eqb, true≢false, decimal}
+use Rattle.seg_words.proofs.Lemmas.{nat_tests}
+use Rattle.seg_words.specs.Types.{list_all, list_any, AllByRecursion, is_name, is_name_byte}
 use Rattle.std.specs.Str.Lines.{lines, strip_carriage_return}
-use Rattle.seg_base.specs.Words.{is_name, is_name_byte}
-use Rattle.script_text.specs.declared.statement.Statement.{Statement}
-use Rattle.script_text.specs.declared.statement.Statement.TheVariants as asks
-use Rattle.script_text.specs.declared.statement.Target.{Target}
-use Rattle.script_text.specs.declared.statement.Target.TheVariants.{Label, Number}
-use Rattle.script_text.specs.declared.statement.Turns.{Turns}
-use Rattle.script_text.specs.declared.draft.Draft.{Draft}
-use Rattle.script_text.specs.declared.form.Form.{Form}
-use Rattle.script_text.specs.declared.form.Form.TheVariants.{Session, Table, Movement, Insert, Update, Delete, Commit, Rollback, Scan, Shrink, Usage, Fix, Repair, Checkpoint, Schedule}
-use Rattle.script_text.specs.declared.form.Forms.{Forms}
-use Rattle.script_text.specs.declared.why.Why.{Why}
+use Rattle.script_text.specs.OwnTypes.{Statement, Target, Label, Number, Turns, Draft, Form, Session, Table, Movement, Insert, Update, Delete, Commit, Rollback, Scan, Shrink, Usage, Fix, Repair, Checkpoint, Schedule, Forms, Why}
 use Rattle.script_text.specs.Pieces.{cut, number_of, is_text_byte, is_digit}
 use Rattle.script_text.specs.Forms.{word_of, is_open, form_of as form_named}
 use Rattle.script_text.specs.Grammar.{is_passed_over, is_out_of_order, is_empty, worded, line_of}
@@ -23,6 +11,7 @@ use Rattle.script_text.specs.Spelled.{IsSpelled, IsTarget, IsText, IsValue, form
 use Rattle.script_text.proofs.Cuts.{lines_at}
 use Rattle.script_text.proofs.Spellings.{both_true, cut_front, name_bytes, decimal_digits}
 use Rattle.script_text.proofs.ScheduleSaid.{all_append, all_weaker}
+use Rattle.script_text.specs.declared.statement.Statement.TheVariants as asks
 
 -- ---- lines of text bytes
 text_byte_at : (bytes : List ℕ) (i : ℕ) → list_all is_text_byte bytes ≡ true → i < length bytes → get_or bytes i 0 ≡ 13 → ⊥

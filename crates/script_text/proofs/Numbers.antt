@@ -1,9 +1,7 @@
 -- Numbers in decimal.
-use Rattle.std.proofs.Common.{◌≡◌, ℕ, zero, suc, ◌+◌, ◌-◌, ◌*◌, ◌<◌, ◌≤◌, true, List, [], ◌∷◌, length, get_or, take, drop, ap, sym, ◌∙◌, fold, arith}
-use Rattle.std.proofs.lemmas.List.{take-append-drop}
-use Rattle.std.proofs.lemmas.List.Sums.{fold_more, fold-append}
-use Rattle.std.proofs.lemmas.Bool.Decides.{nat_tests}
-use Rattle.std.specs.List.{list_all}
+use Rattle.std.proofs.Common.{◌≡◌, ℕ, zero, suc, ◌+◌, ◌-◌, ◌*◌, ◌<◌, ◌≤◌, true, List, [], ◌∷◌, length, get_or, take, drop, ap, sym, ◌∙◌, fold, arith, take-append-drop}
+use Rattle.seg_words.proofs.Lemmas.{fold_more, fold-append, nat_tests}
+use Rattle.seg_words.specs.Types.{list_all}
 use Rattle.script_text.specs.Pieces.{value_of, with_digit, is_digit}
 
 pub value_more : (xs : List ℕ) (i d : ℕ) → i < length xs → value_of (take (i + 1) xs) ≡ value_of (take i xs) * 10 + (get_or xs i d - 48)

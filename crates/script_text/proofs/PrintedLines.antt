@@ -1,15 +1,8 @@
 -- A printed script has no comments and no empty lines.
-use Rattle.std.proofs.Common.{◌≡◌, ℕ, ◌+◌, ◌^◌, ◌≤◌, ◌<◌, ◌||◌, Bool, false, true, List, [], ◌∷◌, ◌++◌, length, refl, ap, sym, ◌∙◌, arith, Option, Some, None, append_assoc}
-use Rattle.std.proofs.lemmas.List.{append-nil}
-use Rattle.std.specs.List.{list_all, list_any, AllByRecursion}
-use Rattle.std.specs.Fmt.{decimal}
+use Rattle.std.proofs.Common.{◌≡◌, ℕ, ◌+◌, ◌^◌, ◌≤◌, ◌<◌, ◌||◌, Bool, false, true, List, [], ◌∷◌, ◌++◌, length, refl, ap, sym, ◌∙◌, arith, Option, Some, None, append_assoc, append-nil, decimal}
+use Rattle.seg_words.specs.Types.{list_all, list_any, AllByRecursion}
 use Rattle.std.specs.Str.Lines.{lines}
-use Rattle.script_text.specs.declared.statement.Statement.{Statement}
-use Rattle.script_text.specs.declared.statement.Turns.{Turns}
-use Rattle.script_text.specs.declared.form.Form.{Form}
-use Rattle.script_text.specs.declared.form.Form.TheVariants.{Session, Schedule}
-use Rattle.script_text.specs.declared.form.Forms.{Forms}
-use Rattle.script_text.specs.declared.form.TheConstants.{ALL_FORMS}
+use Rattle.script_text.specs.OwnTypes.{Statement, Turns, Form, Session, Schedule, Forms, ALL_FORMS}
 use Rattle.script_text.specs.Pieces.{is_text_byte}
 use Rattle.script_text.specs.Forms.{word_of}
 use Rattle.script_text.specs.Script.{Script}

@@ -1,17 +1,12 @@
 -- What is spelled behind a first word is read as the statement.
-use Rattle.std.proofs.Common.{◌≡◌, ℕ, suc, zero, ◌^◌, ◌≤◌, ◌<◌, Bool, true, false, cond, List, [], ◌∷◌, ◌++◌, refl, ap, sym, ◌∙◌, arith, Option, Some, None, Result, Ok, Err, eqb, codes}
-use Rattle.std.proofs.lemmas.Bool.{ne_eqb}
-use Rattle.std.proofs.lemmas.List.{append-nil}
-use Rattle.std.specs.Fmt.{decimal}
-use Rattle.seg_base.specs.Words.{is_name}
-use Rattle.script_text.specs.declared.statement.Statement.{Statement}
-use Rattle.script_text.specs.declared.statement.Statement.TheVariants as asks
-use Rattle.script_text.specs.declared.statement.Target.{Target}
-use Rattle.script_text.specs.declared.statement.Target.TheVariants.{Label, Number}
+use Rattle.std.proofs.Common.{◌≡◌, ℕ, suc, zero, ◌^◌, ◌≤◌, ◌<◌, Bool, true, false, cond, List, [], ◌∷◌, ◌++◌, refl, ap, sym, ◌∙◌, arith, Option, Some, None, Result, Ok, Err, eqb, codes, ne_eqb, append-nil, decimal}
+use Rattle.seg_words.specs.Types.{is_name}
+use Rattle.script_text.specs.OwnTypes.{Statement, Target, Label, Number}
 use Rattle.script_text.specs.Pieces.{cut, number_of, ordinal_of}
 use Rattle.script_text.specs.Rows.{row, table_of, movement_of, insert_of, update_of, delete_of, shrink_of, fix_of, numbered, target_of}
 use Rattle.script_text.specs.Spelled.{IsSpelled, IsTarget, IsText, form_of, behind, target_text}
 use Rattle.script_text.proofs.Spellings.{cut_name, name_is_word, cut_decimal, decimal_is_word, number_says, text_says}
+use Rattle.script_text.specs.declared.statement.Statement.TheVariants as asks
 
 table_says : (name : List ℕ) (n : ℕ) → is_name name ≡ true → n ≤ 50 → table_of (name ++ 32 ∷ decimal n) ≡ Ok (asks.Table name n)
 unfolding table_of

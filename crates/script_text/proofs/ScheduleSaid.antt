@@ -1,17 +1,9 @@
 -- The items of a schedule that is printed are read as its turns, and turns that are read have items.
-use Rattle.std.proofs.Common.{◌≡◌, ℕ, suc, zero, ◌^◌, ◌≤◌, ◌<◌, ◌&&◌, ◌||◌, ◌⊎◌, not, Bool, true, false, cond, List, [], ◌∷◌, ◌++◌, length, refl, ap, sym, subst, ◌∙◌, arith, Option, Some, None, Result, Ok, Err, eqb, codes, map, append_assoc, inl, inr}
-use Rattle.std.proofs.lemmas.Bool.{eqb-true, ne_eqb, true≢false}
-use Rattle.std.proofs.lemmas.List.{append-nil}
+use Rattle.std.proofs.Common.{◌≡◌, ℕ, suc, zero, ◌^◌, ◌≤◌, ◌<◌, ◌&&◌, ◌||◌, ◌⊎◌, not, Bool, true, false, cond, List, [], ◌∷◌, ◌++◌, length, refl, ap, sym, subst, ◌∙◌, arith, Option, Some, None, Result, Ok, Err, eqb, codes, map, append_assoc, inl, inr, eqb-true, ne_eqb, true≢false, append-nil, decimal, bytes_eq, ok_or, is_some}
 use Rattle.std.proofs.lemmas.Slice.Eq.{bytes_eq-Decides}
 use Rattle.std.proofs.lemmas.Fmt.{decimal_injective, decimal_digit}
-use Rattle.std.specs.List.{list_all, list_any, AllByRecursion}
-use Rattle.std.specs.Fmt.{decimal}
-use Rattle.std.specs.Str.{bytes_eq}
-use Rattle.std.specs.Prelude.{ok_or, is_some}
-use Rattle.script_text.specs.declared.statement.Turns.{Turns}
-use Rattle.script_text.specs.declared.form.Forms.{Forms}
-use Rattle.script_text.specs.declared.why.Why.{Why}
-use Rattle.script_text.specs.declared.why.Why.TheVariants.{ScheduleSession, NotAStatement, BadNumber}
+use Rattle.seg_words.specs.Types.{list_all, list_any, AllByRecursion}
+use Rattle.script_text.specs.OwnTypes.{Turns, Forms, Why, ScheduleSession, NotAStatement, BadNumber}
 use Rattle.script_text.specs.Pieces.{cut, words, is_number, number_of, ordinal_of, is_digit}
 use Rattle.script_text.specs.Rows.{◌>>=◌}
 use Rattle.script_text.specs.Schedule.{times_of, is_item, is_flush, turns_in, turns_with, with_turns, items_of}

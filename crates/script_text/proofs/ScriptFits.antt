@@ -1,21 +1,8 @@
 -- Each script that is read has a spelling: what was read so far has one after each line.
-use Rattle.std.proofs.Common.{◌≡◌, ℕ, suc, zero, ◌+◌, ◌^◌, ◌≤◌, ◌<◌, ◌&&◌, ◌||◌, ◌⊎◌, not, Bool, true, false, cond, List, [], ◌∷◌, ◌++◌, length, refl, ap, sym, subst, ◌∙◌, arith, Option, Some, None, Result, Ok, Err, eqb, append_assoc, length-append, inl, inr}
-use Rattle.std.proofs.lemmas.Bool.{eqb-true, ne_eqb, true≢false}
-use Rattle.std.proofs.lemmas.List.{append-nil}
-use Rattle.std.specs.List.{list_all, list_any, AllByRecursion}
-use Rattle.std.specs.Str.{bytes_eq}
+use Rattle.std.proofs.Common.{◌≡◌, ℕ, suc, zero, ◌+◌, ◌^◌, ◌≤◌, ◌<◌, ◌&&◌, ◌||◌, ◌⊎◌, not, Bool, true, false, cond, List, [], ◌∷◌, ◌++◌, length, refl, ap, sym, subst, ◌∙◌, arith, Option, Some, None, Result, Ok, Err, eqb, append_assoc, length-append, inl, inr, eqb-true, ne_eqb, true≢false, append-nil, bytes_eq}
+use Rattle.seg_words.specs.Types.{list_all, list_any, AllByRecursion}
 use Rattle.std.specs.Str.Lines.{lines}
-use Rattle.script_text.specs.declared.statement.Statement.{Statement}
-use Rattle.script_text.specs.declared.statement.Statement.TheVariants as asks
-use Rattle.script_text.specs.declared.statement.Turns.{Turns}
-use Rattle.script_text.specs.declared.draft.Draft.{Draft}
-use Rattle.script_text.specs.declared.form.Form.{Form}
-use Rattle.script_text.specs.declared.form.Form.TheVariants.{Session, Table, Movement, Insert, Update, Delete, Commit, Rollback, Scan, Shrink, Usage, Fix, Repair, Checkpoint, Schedule}
-use Rattle.script_text.specs.declared.form.Forms.{Forms}
-use Rattle.script_text.specs.declared.form.TheConstants.{ALL_FORMS}
-use Rattle.script_text.specs.declared.why.Why.{Why}
-use Rattle.script_text.specs.declared.why.Why.TheVariants.{BadByte, SessionOrder, NotAStatement, DuplicateLabel}
-use Rattle.script_text.specs.declared.why.ScriptFault.{ScriptFault}
+use Rattle.script_text.specs.OwnTypes.{Statement, Turns, Draft, Form, Session, Table, Movement, Insert, Update, Delete, Commit, Rollback, Scan, Shrink, Usage, Fix, Repair, Checkpoint, Schedule, Forms, ALL_FORMS, Why, BadByte, SessionOrder, NotAStatement, DuplicateLabel, ScriptFault}
 use Rattle.script_text.specs.Pieces.{cut, words, number_of, is_text_byte}
 use Rattle.script_text.specs.Forms.{is_open, form_of as form_named}
 use Rattle.script_text.specs.Rows.{row, ◌>>=◌}
@@ -25,6 +12,7 @@ use Rattle.script_text.specs.Grammar.{nothing_read, closed_of, script_of, is_pas
 use Rattle.script_text.specs.Spelled.{IsStatement, IsSpelled, IsTurns, IsScript, AreNew, labels_of, labels_in, most_sessions, form_of}
 use Rattle.script_text.proofs.RowsFit.{IfRead, step, done, any, chosen, refused, row_fits, Fits, AreTextBytes, bytes_behind, number_within}
 use Rattle.script_text.proofs.ScheduleSaid.{items_fit}
+use Rattle.script_text.specs.declared.statement.Statement.TheVariants as asks
 
 abbrev pub AllSpelled : Forms → List Statement → Type 0
 AllSpelled forms session = AllByRecursion (IsStatement forms) session

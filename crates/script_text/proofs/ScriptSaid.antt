@@ -1,22 +1,9 @@
 -- A script that is printed is read as the same script.
-use Rattle.std.proofs.Common.{◌≡◌, ℕ, suc, zero, ◌+◌, ◌^◌, ◌≤◌, ◌<◌, ◌&&◌, ◌||◌, not, Bool, true, false, cond, List, [], ◌∷◌, ◌++◌, length, refl, ap, sym, subst, ◌∙◌, arith, Option, Some, None, Result, Ok, Err, eqb, eq-eqb, append_assoc, codes}
-use Rattle.std.proofs.lemmas.Bool.{eqb-true, ne_eqb, true≢false}
-use Rattle.std.proofs.lemmas.Bool.Decides.{nat_tests}
-use Rattle.std.proofs.lemmas.List.{append-nil}
-use Rattle.std.specs.List.{list_all, list_any, AllByRecursion}
-use Rattle.std.specs.Fmt.{decimal}
-use Rattle.std.specs.Str.{bytes_eq}
+use Rattle.std.proofs.Common.{◌≡◌, ℕ, suc, zero, ◌+◌, ◌^◌, ◌≤◌, ◌<◌, ◌&&◌, ◌||◌, not, Bool, true, false, cond, List, [], ◌∷◌, ◌++◌, length, refl, ap, sym, subst, ◌∙◌, arith, Option, Some, None, Result, Ok, Err, eqb, eq-eqb, append_assoc, codes, eqb-true, ne_eqb, true≢false, append-nil, decimal, bytes_eq}
+use Rattle.seg_words.proofs.Lemmas.{nat_tests}
+use Rattle.seg_words.specs.Types.{list_all, list_any, AllByRecursion}
 use Rattle.std.specs.Str.Lines.{lines}
-use Rattle.script_text.specs.declared.statement.Statement.{Statement}
-use Rattle.script_text.specs.declared.statement.Statement.TheVariants as asks
-use Rattle.script_text.specs.declared.statement.Turns.{Turns}
-use Rattle.script_text.specs.declared.draft.Draft.{Draft}
-use Rattle.script_text.specs.declared.form.Form.{Form}
-use Rattle.script_text.specs.declared.form.Form.TheVariants.{Session, Schedule}
-use Rattle.script_text.specs.declared.form.Forms.{Forms}
-use Rattle.script_text.specs.declared.why.Why.{Why}
-use Rattle.script_text.specs.declared.why.Why.TheVariants.{NotAStatement, SessionOrder, DuplicateLabel}
-use Rattle.script_text.specs.declared.why.ScriptFault.{ScriptFault}
+use Rattle.script_text.specs.OwnTypes.{Statement, Turns, Draft, Form, Session, Schedule, Forms, Why, NotAStatement, SessionOrder, DuplicateLabel, ScriptFault}
 use Rattle.script_text.specs.Pieces.{words, number_of, is_text_byte, is_digit}
 use Rattle.script_text.specs.Forms.{is_open, word_of}
 use Rattle.script_text.specs.Rows.{row, ◌>>=◌}
@@ -29,6 +16,7 @@ use Rattle.script_text.proofs.RowsSaid.{row_says}
 use Rattle.script_text.proofs.ScheduleSaid.{items_say, all_append, all_weaker, item_is, is_item_byte}
 use Rattle.script_text.proofs.LinesSaid.{lines_front, statement_is_text, decimal_is_text, line_is}
 use Rattle.script_text.proofs.ScriptFits.{labels_append, most_few, AllSpelled}
+use Rattle.script_text.specs.declared.statement.Statement.TheVariants as asks
 
 -- ---- from lines to lines
 -- reading leads from what was read, at these bytes, to what was read then, at those bytes

@@ -1,24 +1,15 @@
 -- The grammar of a script, line by line. This engine's own.
-use Rattle.std.specs.Prelude.{ℕ, ◌+◌, Bool, true, false, not, ◌&&◌, ◌||◌, ◌==◌, nat_le, if◌then◌else◌, List, [], ◌∷◌, ◌++◌, length, Option, Some, None, Result, Ok, Err}
-use Rattle.std.specs.Str.{bytes_eq}
+use Rattle.std.specs.Prelude.{ℕ, ◌+◌, Bool, true, false, not, ◌&&◌, ◌||◌, ◌==◌, nat_le, if◌then◌else◌, List, [], ◌∷◌, ◌++◌, length, Option, Some, None, Result, Ok, Err, bytes_eq}
 use Rattle.std.specs.Str.Lines.{lines}
-use Rattle.std.specs.List.{list_all, list_any}
-use Rattle.script_text.specs.declared.statement.Statement.{Statement}
-use Rattle.script_text.specs.declared.statement.Statement.TheVariants as asks
-use Rattle.script_text.specs.declared.statement.Turns.{Turns}
-use Rattle.script_text.specs.declared.form.Form.{Form}
-use Rattle.script_text.specs.declared.form.Form.TheVariants.{Session, Schedule}
-use Rattle.script_text.specs.declared.form.Forms.{Forms}
-use Rattle.script_text.specs.declared.draft.Draft.{Draft}
-use Rattle.script_text.specs.declared.why.Why.{Why}
-use Rattle.script_text.specs.declared.why.Why.TheVariants.{BadByte, SessionOrder, NotAStatement, DuplicateLabel}
-use Rattle.script_text.specs.declared.why.ScriptFault.{ScriptFault}
+use Rattle.seg_words.specs.Types.{list_all, list_any, MOST_SESSIONS}
+use Rattle.script_text.specs.OwnTypes.{Statement, Turns, Form, Session, Schedule, Forms, Draft, Why, BadByte, SessionOrder, NotAStatement, DuplicateLabel, ScriptFault}
 use Rattle.script_text.specs.declared.why.ScriptFault.TheVariants.{BadLine}
 use Rattle.script_text.specs.Pieces.{cut, words, number_of, is_text_byte}
 use Rattle.script_text.specs.Forms.{form_of, is_open}
 use Rattle.script_text.specs.Rows.{row, ◌>>=◌}
 use Rattle.script_text.specs.Schedule.{items_of}
 use Rattle.script_text.specs.Script.{Script}
+use Rattle.script_text.specs.declared.statement.Statement.TheVariants as asks
 
 -- ---- what was read so far
 abbrev pub nothing_read : Draft
@@ -67,7 +58,7 @@ next_session draft = record draft { count = draft.count + 1; closed = closed_of 
 abbrev pub session_of : Forms → Draft → Option (List ℕ) → Result Draft Why
 session_of forms draft None = Err SessionOrder
 session_of forms draft (Some digits) =
-    if is_just (number_of 64 digits) (draft.count + 1) then (if draft.count == 0 || forms.sessions then Ok (next_session draft) else Err NotAStatement)
+    if is_just (number_of MOST_SESSIONS digits) (draft.count + 1) then (if draft.count == 0 || forms.sessions then Ok (next_session draft) else Err NotAStatement)
     else Err SessionOrder
 
 -- `schedule I ..`

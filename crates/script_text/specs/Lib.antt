@@ -1,5 +1,6 @@
 pub mod Forms
 pub mod Grammar
+pub mod OwnTypes
 pub mod Parsed
 pub mod Pieces
 pub mod Rows

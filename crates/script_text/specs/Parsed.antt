@@ -1,9 +1,8 @@
 -- What the parser answers beside what the grammar says.
 use Rattle.std.specs.Prelude.{◌≡◌, ℕ, Result, Ok, Err}
-use Rattle.script_text.specs.declared.why.Why.{Why}
+use Rattle.script_text.specs.OwnTypes.{Why, ScriptFault}
 use Rattle.script_text.specs.declared.why.LineFault.{LineFault}
 use Rattle.script_text.specs.declared.why.LineFault.TheVariants as line
-use Rattle.script_text.specs.declared.why.ScriptFault.{ScriptFault}
 use Rattle.script_text.specs.declared.why.ScriptFault.TheVariants as script
 
 -- a line's fault is what was read, unless memory ran out

@@ -1,16 +1,9 @@
 -- The rows of the grammar: the statement of a line behind its first word. This engine's own.
-use Rattle.std.specs.Prelude.{ℕ, ◌^◌, ◌-◌, Bool, true, false, ◌||◌, ◌==◌, nat_le, if◌then◌else◌, List, [], ◌∷◌, length, Option, Some, None, Result, Ok, Err, ok_or, codes}
-use Rattle.std.specs.Str.{bytes_eq}
-use Rattle.seg_base.specs.Words.{is_name}
-use Rattle.script_text.specs.declared.statement.Statement.{Statement}
-use Rattle.script_text.specs.declared.statement.Statement.TheVariants as asks
-use Rattle.script_text.specs.declared.statement.Target.{Target}
-use Rattle.script_text.specs.declared.statement.Target.TheVariants.{Label, Number}
-use Rattle.script_text.specs.declared.form.Form.{Form}
-use Rattle.script_text.specs.declared.form.Form.TheVariants.{Session, Table, Movement, Insert, Update, Delete, Commit, Rollback, Scan, Shrink, Usage, Fix, Repair, Checkpoint, Schedule}
-use Rattle.script_text.specs.declared.why.Why.{Why}
-use Rattle.script_text.specs.declared.why.Why.TheVariants.{NotAStatement, BadName, BadNumber, RowEmpty, RowTooLong}
+use Rattle.std.specs.Prelude.{ℕ, ◌^◌, ◌-◌, Bool, true, false, ◌||◌, ◌==◌, nat_le, if◌then◌else◌, List, [], ◌∷◌, length, Option, Some, None, Result, Ok, Err, ok_or, codes, bytes_eq}
+use Rattle.seg_words.specs.Types.{is_name, LONGEST_ROW, MOST_PCTFREE}
+use Rattle.script_text.specs.OwnTypes.{MOST_ROW_NUMBER, MOST_NUMBER, Statement, Target, Label, Number, Form, Session, Table, Movement, Insert, Update, Delete, Commit, Rollback, Scan, Shrink, Usage, Fix, Repair, Checkpoint, Schedule, Why, NotAStatement, BadName, BadNumber, RowEmpty, RowTooLong}
 use Rattle.script_text.specs.Pieces.{cut, last_word, number_of, ordinal_of, is_word}
+use Rattle.script_text.specs.declared.statement.Statement.TheVariants as asks
 
 infixl 10 ◌>>=◌
 abbrev pub ◌>>=◌ : {A B : Type 0} → Result A Why → (A → Result B Why) → Result B Why
@@ -33,7 +26,7 @@ marked (b ∷ bs) = if b == 64 || b == 35 then Ok (b ∷ bs) else Err NotAStatem
 
 -- row numbers are 1 to 2^48
 abbrev pub numbered : List ℕ → Result Target Why
-numbered digits = ok_or (ordinal_of 281474976710656 digits) BadNumber >>= λ row. Ok (Number row)
+numbered digits = ok_or (ordinal_of MOST_ROW_NUMBER digits) BadNumber >>= λ row. Ok (Number row)
 
 abbrev pub labelled : List ℕ → Result Target Why
 labelled word = named word >>= λ label. Ok (Label label)
@@ -46,7 +39,7 @@ target_of (b ∷ bs) = if b == 64 then labelled bs else numbered bs
 -- 1 to 1,800 bytes
 abbrev pub text_of : List ℕ → Result (List ℕ) Why
 text_of [] = Err RowEmpty
-text_of (b ∷ bs) = if nat_le (length (b ∷ bs)) 1800 then Ok (b ∷ bs) else Err RowTooLong
+text_of (b ∷ bs) = if nat_le (length (b ∷ bs)) LONGEST_ROW then Ok (b ∷ bs) else Err RowTooLong
 
 abbrev pub switch_of : Option (List ℕ) → Result Bool Why
 switch_of None = Err NotAStatement
@@ -62,7 +55,7 @@ unfoldable pub table_of : List ℕ → Result Statement Why
 table_of rest = do
   percent ← ok_or (last_word (cut 32 rest).1) NotAStatement
   name ← named (cut 32 rest).0
-  pctfree ← ok_or (number_of 50 percent) BadNumber
+  pctfree ← ok_or (number_of MOST_PCTFREE percent) BadNumber
   Ok (asks.Table name pctfree)
 
 -- `movement T on`, `movement T off`
@@ -118,14 +111,14 @@ shrink_of rest = do
 abbrev pub fix_block : List ℕ → List ℕ → Result Statement Why
 fix_block name digits = do
   table ← named name
-  block ← ok_or (number_of 4294967295 digits) BadNumber
+  block ← ok_or (number_of MOST_NUMBER digits) BadNumber
   Ok (asks.Fix table block None)
 
 abbrev pub fix_value : List ℕ → List ℕ → List ℕ → Result Statement Why
 fix_value name digits last = do
   table ← named name
-  block ← ok_or (number_of 4294967295 digits) BadNumber
-  value ← ok_or (number_of 4294967295 last) BadNumber
+  block ← ok_or (number_of MOST_NUMBER digits) BadNumber
+  value ← ok_or (number_of MOST_NUMBER last) BadNumber
   Ok (asks.Fix table block (Some value))
 
 abbrev pub fix_with : List ℕ → List ℕ → Option (List ℕ) → Result Statement Why

@@ -1,18 +1,14 @@
 -- The items of a schedule line. This engine's own.
-use Rattle.std.specs.Prelude.{ℕ, Bool, true, false, ◌&&◌, not, if◌then◌else◌, List, [], ◌∷◌, ◌++◌, Option, Some, None, is_some, Result, Ok, Err, ok_or, codes}
-use Rattle.std.specs.Str.{bytes_eq}
-use Rattle.std.specs.List.{list_all, list_any}
-use Rattle.script_text.specs.declared.statement.Turns.{Turns}
-use Rattle.script_text.specs.declared.form.Forms.{Forms}
-use Rattle.script_text.specs.declared.why.Why.{Why}
-use Rattle.script_text.specs.declared.why.Why.TheVariants.{NotAStatement, BadNumber, ScheduleSession}
+use Rattle.std.specs.Prelude.{ℕ, Bool, true, false, ◌&&◌, not, if◌then◌else◌, List, [], ◌∷◌, ◌++◌, Option, Some, None, is_some, Result, Ok, Err, ok_or, codes, bytes_eq}
+use Rattle.seg_words.specs.Types.{list_all, list_any}
+use Rattle.script_text.specs.OwnTypes.{MOST_TURNS, Turns, Forms, Why, NotAStatement, BadNumber, ScheduleSession}
 use Rattle.script_text.specs.Pieces.{cut, is_number, number_of, ordinal_of}
 use Rattle.script_text.specs.Rows.{◌>>=◌}
 
 -- how often: once, or as the number behind the `x` says
 abbrev pub times_of : Option (List ℕ) → Option ℕ
 times_of None = Some 1
-times_of (Some digits) = ordinal_of 1000000 digits
+times_of (Some digits) = ordinal_of MOST_TURNS digits
 
 -- `N` or `NxC`, whatever the number N
 abbrev pub is_item : List ℕ → Bool

@@ -1,32 +1,23 @@
 -- The lines that scripts are printed as, and what has such lines.
-use Rattle.std.specs.Prelude.{◌≡◌, ℕ, ◌+◌, ◌<◌, ◌≤◌, Bool, true, false, ◌==◌, if◌then◌else◌, List, [], ◌∷◌, ◌++◌, length, Option, Some, None, codes}
-use Rattle.std.specs.List.{list_all, list_any, AllByRecursion}
-use Rattle.std.specs.Fmt.{decimal}
-use Rattle.std.specs.Str.{bytes_eq}
-use Rattle.seg_base.specs.Words.{is_name}
-use Rattle.script_text.specs.declared.statement.Statement.{Statement}
-use Rattle.script_text.specs.declared.statement.Statement.TheVariants as asks
-use Rattle.script_text.specs.declared.statement.Target.{Target}
-use Rattle.script_text.specs.declared.statement.Target.TheVariants.{Label, Number}
-use Rattle.script_text.specs.declared.statement.Turns.{Turns}
-use Rattle.script_text.specs.declared.form.Form.{Form}
-use Rattle.script_text.specs.declared.form.Form.TheVariants.{Session, Table, Movement, Insert, Update, Delete, Commit, Rollback, Scan, Shrink, Usage, Fix, Repair, Checkpoint, Schedule}
-use Rattle.script_text.specs.declared.form.Forms.{Forms}
+use Rattle.std.specs.Prelude.{◌≡◌, ℕ, ◌+◌, ◌<◌, ◌≤◌, Bool, true, false, ◌==◌, if◌then◌else◌, List, [], ◌∷◌, ◌++◌, length, Option, Some, None, codes, decimal, bytes_eq}
+use Rattle.seg_words.specs.Types.{list_all, list_any, AllByRecursion, is_name, LONGEST_ROW, MOST_PCTFREE, MOST_SESSIONS}
+use Rattle.script_text.specs.OwnTypes.{MOST_ROW_NUMBER, MOST_NUMBER, MOST_TURNS, Statement, Target, Label, Number, Turns, Form, Session, Table, Movement, Insert, Update, Delete, Commit, Rollback, Scan, Shrink, Usage, Fix, Repair, Checkpoint, Schedule, Forms}
 use Rattle.script_text.specs.Forms.{word_of, is_open}
 use Rattle.script_text.specs.Pieces.{is_text_byte}
 use Rattle.script_text.specs.Script.{Script}
+use Rattle.script_text.specs.declared.statement.Statement.TheVariants as asks
 
 -- ---- what has a spelling
 abbrev pub IsText : List ℕ → Type 0
-IsText text = (0 < length text) × (length text ≤ 1800) × (list_all is_text_byte text ≡ true)
+IsText text = (0 < length text) × (length text ≤ LONGEST_ROW) × (list_all is_text_byte text ≡ true)
 
 abbrev pub IsTarget : Target → Type 0
 IsTarget (Label label) = is_name label ≡ true
-IsTarget (Number row) = (0 < row) × (row ≤ 281474976710656)
+IsTarget (Number row) = (0 < row) × (row ≤ MOST_ROW_NUMBER)
 
 abbrev pub IsValue : Option ℕ → Type 0
 IsValue None = Unit {0}
-IsValue (Some value) = value ≤ 4294967295
+IsValue (Some value) = value ≤ MOST_NUMBER
 
 -- the form of a statement's line
 abbrev pub form_of : Statement → Form
@@ -46,7 +37,7 @@ form_of asks.Checkpoint = Checkpoint
 
 -- its words are those that the grammar takes
 abbrev pub IsSpelled : Statement → Type 0
-IsSpelled (asks.Table name pctfree) = (is_name name ≡ true) × (pctfree ≤ 50)
+IsSpelled (asks.Table name pctfree) = (is_name name ≡ true) × (pctfree ≤ MOST_PCTFREE)
 IsSpelled (asks.Movement table on) = is_name table ≡ true
 IsSpelled (asks.Insert table label text) = (is_name table ≡ true) × (is_name label ≡ true) × IsText text
 IsSpelled (asks.Update table target text) = (is_name table ≡ true) × IsTarget target × IsText text
@@ -56,7 +47,7 @@ IsSpelled asks.Rollback = Unit {0}
 IsSpelled (asks.Scan table) = is_name table ≡ true
 IsSpelled (asks.Shrink table compact) = is_name table ≡ true
 IsSpelled (asks.Usage table) = is_name table ≡ true
-IsSpelled (asks.Fix table block value) = (is_name table ≡ true) × (block ≤ 4294967295) × IsValue value
+IsSpelled (asks.Fix table block value) = (is_name table ≡ true) × (block ≤ MOST_NUMBER) × IsValue value
 IsSpelled (asks.Repair table) = is_name table ≡ true
 IsSpelled asks.Checkpoint = Unit {0}
 
@@ -70,7 +61,7 @@ pub record IsTurns (forms : Forms) (sessions : ℕ) (turns : Turns) : Type 0 whe
   pub built : forms.schedule ≡ true
   pub who : turns.who ≤ sessions
   pub some : 0 < turns.times
-  pub few : turns.times ≤ 1000000
+  pub few : turns.times ≤ MOST_TURNS
   pub flush : turns.who ≡ 0 → forms.flushes ≡ true
 
 -- the labels that statements bind, in order
@@ -89,7 +80,7 @@ AreNew before [] = Unit {0}
 AreNew before (label ∷ labels) = (list_any (bytes_eq label) before ≡ false) × AreNew (before ++ label ∷ []) labels
 
 abbrev pub most_sessions : Forms → ℕ
-most_sessions forms = if forms.sessions then 64 else 1
+most_sessions forms = if forms.sessions then MOST_SESSIONS else 1
 
 -- what some bytes spell, where these forms are built
 pub record IsScript (forms : Forms) (script : Script) : Type 0 where

@@ -10,7 +10,7 @@ use crate::row::row;
 use crate::schedule::add_items;
 use crate::statement::{Statement, Turns};
 use crate::why::{LineFault, Why};
-use seg_base::{NoMemory, Sequence};
+use seg_base::{MOST_SESSIONS, NoMemory, Sequence};
 use std::alloc::Global;
 use std::mem;
 
@@ -101,7 +101,7 @@ fn session_of(
 ) -> Result<(), LineFault>
     ensures { Becomes result draft.new (session_of forms.now draft.old (Some digits.now)) }
 {
-    let Some(next) = number(digits, 64) else {
+    let Some(next) = number(digits, u64::from(MOST_SESSIONS)) else {
         return Err(LineFault::Bad(Why::SessionOrder));
     };
     if next != u64::from(draft.count) + 1 {

@@ -5,6 +5,7 @@ mod draft;
 mod form;
 mod labels;
 mod laws;
+mod limit;
 mod parsing;
 mod pieces;
 mod printing;

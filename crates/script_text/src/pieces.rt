@@ -1,7 +1,6 @@
 // Pieces of a line, and numbers in it.
-ghost use Rattle.std.specs.Prelude.{◌≡◌, ◌<◌, ◌≤◌, ◌+◌, ◌^◌, ◌∷◌, length, true, IfSome};
-ghost use Rattle.std.specs.Option.{option_copied};
-ghost use Rattle.std.specs.List.{list_all};
+ghost use Rattle.std.specs.Prelude.{◌≡◌, ◌<◌, ◌≤◌, ◌+◌, ◌^◌, ◌∷◌, length, true, IfSome, option_copied};
+ghost use Rattle.seg_words.specs.Types.{list_all};
 ghost use Rattle.std.specs.Str.Lines.{lines, strip_carriage_return};
 ghost use Rattle.script_text.specs.Pieces.{cut, is_word, last_word, is_text_byte, is_digit, is_number, value_within, number_of, ordinal_of};
 

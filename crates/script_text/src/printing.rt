@@ -1,7 +1,6 @@
 // Scripts as they are printed.
-ghost use Rattle.std.specs.Prelude.{◌≡◌, ◌++◌, ◌∷◌, [], IfOk, OnOk, Ok, false, codes};
-ghost use Rattle.std.specs.Fmt.{decimal};
-ghost use Rattle.std.specs.List.{list_any};
+ghost use Rattle.std.specs.Prelude.{◌≡◌, ◌++◌, ◌∷◌, [], IfOk, OnOk, Ok, false, codes, decimal};
+ghost use Rattle.seg_words.specs.Types.{list_any};
 ghost use Rattle.std.specs.Str.Lines.{lines};
 ghost use Rattle.script_text.specs.Grammar.{is_passed_over, scripts_of};
 ghost use Rattle.script_text.specs.Spelled.{IsScript, form_of, behind, tail_of, switch_text, target_text, compact_text, value_text, statement_line, statement_lines, session_line, session_lines, item_text, items_text, schedule_line, printed};

@@ -6,10 +6,11 @@ ghost use Rattle.script_text.specs.Parsed.{Gives};
 ghost use Rattle.script_text.specs.Rows.{named, label_in, marked, numbered, labelled, target_of, text_of, switch_of, compact_of, one_name, table_of, movement_of, insert_of, update_of, delete_of, shrink_of, fix_block, fix_value, fix_with, fix_of, scan_of, usage_of, repair_of, row_alone, row_with, row};
 
 use crate::form::Form;
+use crate::limit::{MOST_NUMBER, MOST_ROW_NUMBER};
 use crate::pieces::{cut, is_word, last_word, number, ordinal};
 use crate::statement::{Statement, Target};
 use crate::why::{LineFault, Why};
-use seg_base::{Dba, Name, RowNo, Text};
+use seg_base::{Dba, LONGEST_ROW, MOST_PCTFREE, Name, RowNo, Text};
 use std::alloc::Global;
 
 const NOT_A_STATEMENT: LineFault = LineFault::Bad(Why::NotAStatement);
@@ -48,7 +49,7 @@ fn is_marked(word: &[u8]) -> bool
 fn numbered(digits: &[u8]) -> Result<Target, LineFault>
     ensures { Gives result (numbered digits.now) }
 {
-    match ordinal(digits, 1 << 48) {
+    match ordinal(digits, MOST_ROW_NUMBER) {
         Some(row) => Ok(Target::Number(RowNo(row))),
         None => Err(BAD_NUMBER),
     }
@@ -78,7 +79,7 @@ fn text_of(alloc: Global, bytes: &[u8]) -> Result<Text, LineFault>
     if bytes.is_empty() {
         return Err(LineFault::Bad(Why::RowEmpty));
     }
-    if bytes.len() > 1800 {
+    if bytes.len() > LONGEST_ROW {
         return Err(LineFault::Bad(Why::RowTooLong));
     }
     Ok(Text::copy(alloc, bytes)?)
@@ -122,7 +123,7 @@ fn table_of(alloc: Global, rest: &[u8]) -> Result<Statement, LineFault>
         return Err(NOT_A_STATEMENT);
     };
     let name = named(alloc, name)?;
-    let Some(pctfree) = number(percent, 50) else {
+    let Some(pctfree) = number(percent, u64::from(MOST_PCTFREE)) else {
         return Err(BAD_NUMBER);
     };
     Ok(Statement::Table {
@@ -232,7 +233,7 @@ fn fix_block(alloc: Global, name: &[u8], digits: &[u8]) -> Result<Statement, Lin
     ensures { Gives result (fix_block name.now digits.now) }
 {
     let table = named(alloc, name)?;
-    let Some(block) = number(digits, 4_294_967_295) else {
+    let Some(block) = number(digits, MOST_NUMBER) else {
         return Err(BAD_NUMBER);
     };
     Ok(Statement::Fix {
@@ -246,10 +247,10 @@ fn fix_value(alloc: Global, name: &[u8], digits: &[u8], last: &[u8]) -> Result<S
     ensures { Gives result (fix_value name.now digits.now last.now) }
 {
     let table = named(alloc, name)?;
-    let Some(block) = number(digits, 4_294_967_295) else {
+    let Some(block) = number(digits, MOST_NUMBER) else {
         return Err(BAD_NUMBER);
     };
-    let Some(value) = number(last, 4_294_967_295) else {
+    let Some(value) = number(last, MOST_NUMBER) else {
         return Err(BAD_NUMBER);
     };
     Ok(Statement::Fix {

@@ -1,11 +1,12 @@
 // The items of a schedule line.
 ghost use Rattle.std.specs.Prelude.{◌≡◌, ◌≤◌, ◌++◌, option_copied, IfSome};
-ghost use Rattle.std.specs.List.{list_all, list_any};
+ghost use Rattle.seg_words.specs.Types.{list_all, list_any};
 ghost use Rattle.script_text.specs.Pieces.{words};
 ghost use Rattle.script_text.specs.Parsed.{Becomes};
 ghost use Rattle.script_text.specs.Schedule.{times_of, is_item, is_flush, turns_in, items_of, with_turns};
 
 use crate::form::Forms;
+use crate::limit::MOST_TURNS;
 use crate::pieces::{cut, is_number, number, ordinal};
 use crate::statement::Turns;
 use crate::why::{LineFault, Why};
@@ -14,10 +15,10 @@ use seg_base::Sequence;
 /// How often: once, or as the number behind the `x` says.
 fn times_of(digits: Option<&[u8]>) -> Option<u64>
     ensures times { result ≡ times_of (option_copied digits.entry) }
-    ensures range { IfSome result (λ n. n ≤ 1000000) }
+    ensures range { IfSome result (λ n. n ≤ MOST_TURNS) }
 {
     match digits {
-        Some(digits) => ordinal(digits, 1_000_000),
+        Some(digits) => ordinal(digits, MOST_TURNS),
         None => Some(1),
     }
 }

@@ -1,5 +1,4 @@
-use Rattle.std.proofs.Common.{◌≡◌}
-use Rattle.std.specs.Option.{option_copied}
+use Rattle.std.proofs.Common.{◌≡◌, option_copied}
 use Rattle.script_text.specs.Schedule.{with_turns}
 use Rattle.script_text.specs.Pieces.{words, words_left}
 use Rattle.script_text.proofs.Cuts.{left_length}

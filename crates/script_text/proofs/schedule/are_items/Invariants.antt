@@ -1,6 +1,5 @@
-use Rattle.std.proofs.Common.{◌≡◌}
-use Rattle.std.specs.Option.{option_copied}
-use Rattle.std.specs.List.{list_all}
+use Rattle.std.proofs.Common.{◌≡◌, option_copied}
+use Rattle.seg_words.specs.Types.{list_all}
 use Rattle.script_text.specs.Schedule.{is_item}
 use Rattle.script_text.specs.Pieces.{words, words_left}
 use Rattle.script_text.proofs.Cuts.{left_length}

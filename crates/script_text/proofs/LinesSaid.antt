@@ -1,13 +1,13 @@
 -- The lines of a printed script, one by one.
-use Rattle.std.proofs.Common.{◌≡◌, ℕ, suc, zero, ◌+◌, ◌-◌, ◌^◌, ◌≤◌, ◌<◌, ◌&&◌, ◌||◌, ◌⊎◌, not, Bool, true, false, cond, List, [], ◌∷◌, ◌++◌, length, get_or, refl, ap, sym, subst, ◌∙◌, arith, Option, Some, None, Result, Ok, Err, eqb, codes, append_assoc, inl, inr, eqb-true, ne_eqb, true≢false, decimal}
+use Rattle.std.proofs.Common.{◌≡◌, ℕ, suc, zero, ◌-◌, ◌^◌, ◌<◌, Bool, true, false, List, [], ◌∷◌, ◌++◌, length, get_or, refl, ap, sym, ◌∙◌, arith, Option, Some, None, ne_eqb, true≢false, decimal}
 use Rattle.seg_words.proofs.Lemmas.{nat_tests}
-use Rattle.seg_words.specs.Types.{list_all, list_any, AllByRecursion, is_name, is_name_byte}
+use Rattle.seg_words.specs.Types.{list_all, is_name, is_name_byte}
 use Rattle.std.specs.Str.Lines.{lines, strip_carriage_return}
-use Rattle.script_text.specs.OwnTypes.{Statement, Target, Label, Number, Turns, Draft, Form, Session, Table, Movement, Insert, Update, Delete, Commit, Rollback, Scan, Shrink, Usage, Fix, Repair, Checkpoint, Schedule, Forms, Why}
-use Rattle.script_text.specs.Pieces.{cut, number_of, is_text_byte, is_digit}
-use Rattle.script_text.specs.Forms.{word_of, is_open, form_of as form_named}
-use Rattle.script_text.specs.Grammar.{is_passed_over, is_out_of_order, is_empty, worded, line_of}
-use Rattle.script_text.specs.Spelled.{IsSpelled, IsTarget, IsText, IsValue, form_of, behind, with_rest, switch_text, target_text, compact_text, value_text}
+use Rattle.script_text.specs.OwnTypes.{Statement, Target, Label, Number, Draft, Form, Session, Table, Movement, Insert, Update, Delete, Commit, Rollback, Scan, Shrink, Usage, Fix, Repair, Checkpoint, Schedule, Forms}
+use Rattle.script_text.specs.Pieces.{cut, is_text_byte, is_digit}
+use Rattle.script_text.specs.Forms.{word_of, form_of as form_named}
+use Rattle.script_text.specs.Grammar.{is_passed_over, worded, line_of}
+use Rattle.script_text.specs.Spelled.{IsSpelled, IsTarget, IsValue, form_of, behind, with_rest, switch_text, target_text, compact_text, value_text}
 use Rattle.script_text.proofs.Cuts.{lines_at}
 use Rattle.script_text.proofs.Spellings.{both_true, cut_front, name_bytes, decimal_digits}
 use Rattle.script_text.proofs.ScheduleSaid.{all_append, all_weaker}

@@ -1,5 +1,5 @@
 -- A printed script has no comments and no empty lines.
-use Rattle.std.proofs.Common.{◌≡◌, ℕ, ◌+◌, ◌^◌, ◌≤◌, ◌<◌, ◌||◌, Bool, false, true, List, [], ◌∷◌, ◌++◌, length, refl, ap, sym, ◌∙◌, arith, Option, Some, None, append_assoc, append-nil, decimal}
+use Rattle.std.proofs.Common.{◌≡◌, ℕ, ◌+◌, ◌^◌, ◌≤◌, ◌||◌, Bool, false, true, List, [], ◌∷◌, ◌++◌, length, refl, ap, ◌∙◌, arith, Option, Some, append_assoc, decimal}
 use Rattle.seg_words.specs.Types.{list_all, list_any, AllByRecursion}
 use Rattle.std.specs.Str.Lines.{lines}
 use Rattle.script_text.specs.OwnTypes.{Statement, Turns, Form, Session, Schedule, Forms, ALL_FORMS}
@@ -7,7 +7,7 @@ use Rattle.script_text.specs.Pieces.{is_text_byte}
 use Rattle.script_text.specs.Forms.{word_of}
 use Rattle.script_text.specs.Script.{Script}
 use Rattle.script_text.specs.Grammar.{is_passed_over}
-use Rattle.script_text.specs.Spelled.{IsStatement, IsTurns, IsScript, form_of, behind, with_rest, statement_line, statement_lines, session_line, session_lines, item_text, items_text, schedule_line, printed}
+use Rattle.script_text.specs.Spelled.{IsTurns, IsScript, form_of, behind, with_rest, statement_line, statement_lines, session_line, session_lines, item_text, items_text, schedule_line, printed}
 use Rattle.script_text.proofs.LinesSaid.{lines_front, statement_is_text, decimal_is_text, not_passed}
 use Rattle.script_text.proofs.ScriptFits.{AllSpelled}
 use Rattle.script_text.proofs.ScriptSaid.{items_are_text}

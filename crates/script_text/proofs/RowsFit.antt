@@ -1,10 +1,10 @@
 -- A statement that is read has a spelling, and is of the line's form.
-use Rattle.std.proofs.Common.{◌≡◌, ℕ, suc, zero, ◌^◌, ◌≤◌, ◌<◌, ◌&&◌, ◌⊎◌, Bool, true, false, cond, List, [], ◌∷◌, ◌++◌, length, refl, ap, sym, subst, ◌∙◌, arith, Option, Some, None, Result, Ok, Err, eqb, codes, inl, inr, leb-true, eqb-true, ne_eqb, ltb-true, bytes_eq, ok_or, nat_le, option_and_then}
+use Rattle.std.proofs.Common.{◌≡◌, ℕ, suc, zero, ◌≤◌, ◌<◌, Bool, true, false, cond, List, [], ◌∷◌, ◌++◌, length, refl, sym, subst, arith, Option, Some, None, Result, Ok, Err, eqb, leb-true, ok_or, nat_le, option_and_then}
 use Rattle.seg_words.specs.Types.{list_all, is_name}
-use Rattle.script_text.specs.OwnTypes.{Statement, Target, Label, Number, Form, Session, Table, Movement, Insert, Update, Delete, Commit, Rollback, Scan, Shrink, Usage, Fix, Repair, Checkpoint, Schedule, Why, NotAStatement, BadName, BadNumber, RowEmpty, RowTooLong}
+use Rattle.script_text.specs.OwnTypes.{Statement, Label, Number, Form, Session, Table, Movement, Insert, Update, Delete, Commit, Rollback, Scan, Shrink, Usage, Fix, Repair, Checkpoint, Schedule, Why, NotAStatement, BadName, BadNumber, RowEmpty, RowTooLong}
 use Rattle.script_text.specs.Pieces.{cut, number_of, ordinal_of, not_zero, is_word, last_word, is_number, value_of, is_text_byte}
 use Rattle.script_text.specs.Rows.{◌>>=◌, row, row_with, row_alone, named, label_in, marked, numbered, labelled, target_of, text_of, switch_of, compact_of, one_name, table_of, movement_of, insert_of, update_of, delete_of, shrink_of, fix_block, fix_value, fix_with, fix_of}
-use Rattle.script_text.specs.Spelled.{IsSpelled, IsTarget, IsText, IsValue, form_of}
+use Rattle.script_text.specs.Spelled.{IsSpelled, IsTarget, IsText, form_of}
 use Rattle.script_text.proofs.Cuts.{cut_joins, joined}
 use Rattle.script_text.proofs.Spellings.{both_true, only_if}
 use Rattle.script_text.specs.declared.statement.Statement.TheVariants as asks

@@ -1,10 +1,9 @@
 -- What is spelled behind a first word is read as the statement.
-use Rattle.std.proofs.Common.{◌≡◌, ℕ, suc, zero, ◌^◌, ◌≤◌, ◌<◌, Bool, true, false, cond, List, [], ◌∷◌, ◌++◌, refl, ap, sym, ◌∙◌, arith, Option, Some, None, Result, Ok, Err, eqb, codes, ne_eqb, append-nil, decimal}
+use Rattle.std.proofs.Common.{◌≡◌, ℕ, ◌^◌, ◌≤◌, ◌<◌, Bool, true, false, List, [], ◌∷◌, ◌++◌, refl, arith, Some, None, Ok, eqb, codes, ne_eqb, append-nil, decimal}
 use Rattle.seg_words.specs.Types.{is_name}
-use Rattle.script_text.specs.OwnTypes.{Statement, Target, Label, Number}
-use Rattle.script_text.specs.Pieces.{cut, number_of, ordinal_of}
-use Rattle.script_text.specs.Rows.{row, table_of, movement_of, insert_of, update_of, delete_of, shrink_of, fix_of, numbered, target_of}
-use Rattle.script_text.specs.Spelled.{IsSpelled, IsTarget, IsText, form_of, behind, target_text}
+use Rattle.script_text.specs.OwnTypes.{Statement, Label, Number}
+use Rattle.script_text.specs.Rows.{row, table_of, movement_of, insert_of, update_of, delete_of, shrink_of, fix_of, numbered}
+use Rattle.script_text.specs.Spelled.{IsSpelled, IsText, form_of, behind}
 use Rattle.script_text.proofs.Spellings.{cut_name, name_is_word, cut_decimal, decimal_is_word, number_says, text_says}
 use Rattle.script_text.specs.declared.statement.Statement.TheVariants as asks
 

@@ -1,11 +1,11 @@
 -- A line that is read as a statement is spelled by it.
-use Rattle.std.proofs.Common.{◌≡◌, ℕ, suc, zero, ◌^◌, ◌≤◌, ◌<◌, ◌&&◌, ◌||◌, ◌⊎◌, Bool, true, false, cond, List, [], ◌∷◌, ◌++◌, length, refl, ap, sym, subst, ◌∙◌, arith, Option, Some, None, Result, Ok, Err, eqb, eq-eqb, codes, inl, inr, eqb-true, true≢false, append-nil, decimal, bytes_eq, ok_or, nat_le, option_and_then}
+use Rattle.std.proofs.Common.{◌≡◌, ℕ, ◌^◌, ◌<◌, ◌||◌, ◌⊎◌, Bool, true, false, cond, List, [], ◌∷◌, ◌++◌, length, refl, ap, sym, ◌∙◌, arith, Option, Some, None, Result, Ok, Err, eqb, eq-eqb, codes, inl, inr, eqb-true, true≢false, append-nil, decimal, bytes_eq, ok_or, nat_le, option_and_then}
 use Rattle.std.proofs.lemmas.Slice.Eq.{bytes_eq-Decides}
 use Rattle.seg_words.specs.Types.{is_name}
-use Rattle.script_text.specs.OwnTypes.{Statement, Target, Label, Number, Form, Session, Table, Movement, Insert, Update, Delete, Commit, Rollback, Scan, Shrink, Usage, Fix, Repair, Checkpoint, Schedule, Why, NotAStatement, BadName, BadNumber, RowTooLong, RowEmpty}
+use Rattle.script_text.specs.OwnTypes.{Statement, Label, Number, Form, Session, Table, Movement, Insert, Update, Delete, Commit, Rollback, Scan, Shrink, Usage, Fix, Repair, Checkpoint, Schedule, Why, NotAStatement, BadName, BadNumber, RowTooLong, RowEmpty}
 use Rattle.script_text.specs.Pieces.{cut, number_of, ordinal_of, not_zero, is_word, last_word}
-use Rattle.script_text.specs.Rows.{◌>>=◌, row, row_with, row_alone, named, label_in, marked, numbered, labelled, target_of, text_of, switch_of, compact_of, one_name, table_of, movement_of, insert_of, update_of, delete_of, shrink_of, fix_block, fix_value, fix_with, fix_of}
-use Rattle.script_text.specs.Spelled.{behind, switch_text, compact_text, value_text, target_text}
+use Rattle.script_text.specs.Rows.{row, row_with, row_alone, named, label_in, marked, numbered, labelled, target_of, text_of, switch_of, compact_of, one_name, table_of, movement_of, insert_of, update_of, delete_of, shrink_of, fix_block, fix_value, fix_with, fix_of}
+use Rattle.script_text.specs.Spelled.{behind, switch_text, compact_text, target_text}
 use Rattle.script_text.proofs.Cuts.{cut_joins, joined}
 use Rattle.script_text.proofs.Spellings.{number_spells}
 use Rattle.script_text.proofs.RowsFit.{IfRead, step, done, chosen, refused, from_or}

@@ -1,10 +1,10 @@
 -- The items of a schedule that is printed are read as its turns, and turns that are read have items.
-use Rattle.std.proofs.Common.{◌≡◌, ℕ, suc, zero, ◌^◌, ◌≤◌, ◌<◌, ◌&&◌, ◌||◌, ◌⊎◌, not, Bool, true, false, cond, List, [], ◌∷◌, ◌++◌, length, refl, ap, sym, subst, ◌∙◌, arith, Option, Some, None, Result, Ok, Err, eqb, codes, map, append_assoc, inl, inr, eqb-true, ne_eqb, true≢false, append-nil, decimal, bytes_eq, ok_or, is_some}
+use Rattle.std.proofs.Common.{◌≡◌, ℕ, ◌^◌, ◌≤◌, ◌<◌, ◌&&◌, ◌||◌, ◌⊎◌, not, Bool, true, false, cond, List, [], ◌∷◌, ◌++◌, refl, ap, sym, subst, ◌∙◌, arith, Option, Some, None, Result, Ok, Err, eqb, codes, map, append_assoc, inl, inr, eqb-true, ne_eqb, true≢false, append-nil, decimal, bytes_eq, ok_or}
 use Rattle.std.proofs.lemmas.Slice.Eq.{bytes_eq-Decides}
 use Rattle.std.proofs.lemmas.Fmt.{decimal_injective, decimal_digit}
 use Rattle.seg_words.specs.Types.{list_all, list_any, AllByRecursion}
 use Rattle.script_text.specs.OwnTypes.{Turns, Forms, Why, ScheduleSession, NotAStatement, BadNumber}
-use Rattle.script_text.specs.Pieces.{cut, words, is_number, number_of, ordinal_of, is_digit}
+use Rattle.script_text.specs.Pieces.{cut, words, number_of, is_digit}
 use Rattle.script_text.specs.Rows.{◌>>=◌}
 use Rattle.script_text.specs.Schedule.{times_of, is_item, is_flush, turns_in, turns_with, with_turns, items_of}
 use Rattle.script_text.specs.Spelled.{IsTurns, item_text, items_text}

@@ -1,5 +1,5 @@
 -- Each script that is read has a spelling: what was read so far has one after each line.
-use Rattle.std.proofs.Common.{◌≡◌, ℕ, suc, zero, ◌+◌, ◌^◌, ◌≤◌, ◌<◌, ◌&&◌, ◌||◌, ◌⊎◌, not, Bool, true, false, cond, List, [], ◌∷◌, ◌++◌, length, refl, ap, sym, subst, ◌∙◌, arith, Option, Some, None, Result, Ok, Err, eqb, append_assoc, length-append, inl, inr, eqb-true, ne_eqb, true≢false, append-nil, bytes_eq}
+use Rattle.std.proofs.Common.{◌≡◌, ℕ, ◌+◌, ◌≤◌, ◌&&◌, ◌||◌, not, Bool, true, false, cond, List, [], ◌∷◌, ◌++◌, length, refl, ap, sym, subst, ◌∙◌, arith, Option, Some, None, Result, Ok, Err, eqb, append_assoc, length-append, eqb-true, ne_eqb, true≢false, append-nil, bytes_eq}
 use Rattle.seg_words.specs.Types.{list_all, list_any, AllByRecursion}
 use Rattle.std.specs.Str.Lines.{lines}
 use Rattle.script_text.specs.OwnTypes.{Statement, Turns, Draft, Form, Session, Table, Movement, Insert, Update, Delete, Commit, Rollback, Scan, Shrink, Usage, Fix, Repair, Checkpoint, Schedule, Forms, ALL_FORMS, Why, BadByte, SessionOrder, NotAStatement, DuplicateLabel, ScriptFault}
@@ -8,9 +8,9 @@ use Rattle.script_text.specs.Forms.{is_open, form_of as form_named}
 use Rattle.script_text.specs.Rows.{row, ◌>>=◌}
 use Rattle.script_text.specs.Schedule.{items_of}
 use Rattle.script_text.specs.Script.{Script}
-use Rattle.script_text.specs.Grammar.{nothing_read, closed_of, script_of, is_passed_over, is_session, is_schedule, is_empty, is_out_of_order, is_just, next_session, session_of, schedule_of, bound, added, rowed, formed, worded, line_of, at_line, goes_on, read_lines, scripts_of}
-use Rattle.script_text.specs.Spelled.{IsStatement, IsSpelled, IsTurns, IsScript, AreNew, labels_of, labels_in, most_sessions, form_of}
-use Rattle.script_text.proofs.RowsFit.{IfRead, step, done, any, chosen, refused, row_fits, Fits, AreTextBytes, bytes_behind, number_within}
+use Rattle.script_text.specs.Grammar.{nothing_read, closed_of, script_of, is_passed_over, is_empty, is_out_of_order, is_just, next_session, session_of, schedule_of, bound, added, rowed, formed, worded, line_of, at_line, goes_on, read_lines, scripts_of}
+use Rattle.script_text.specs.Spelled.{IsStatement, IsTurns, IsScript, AreNew, labels_of, labels_in, most_sessions, form_of}
+use Rattle.script_text.proofs.RowsFit.{IfRead, step, done, chosen, refused, row_fits, AreTextBytes, bytes_behind, number_within}
 use Rattle.script_text.proofs.ScheduleSaid.{items_fit}
 use Rattle.script_text.specs.declared.statement.Statement.TheVariants as asks
 

@@ -1,21 +1,21 @@
 -- A script that is printed is read as the same script.
-use Rattle.std.proofs.Common.{◌≡◌, ℕ, suc, zero, ◌+◌, ◌^◌, ◌≤◌, ◌<◌, ◌&&◌, ◌||◌, not, Bool, true, false, cond, List, [], ◌∷◌, ◌++◌, length, refl, ap, sym, subst, ◌∙◌, arith, Option, Some, None, Result, Ok, Err, eqb, eq-eqb, append_assoc, codes, eqb-true, ne_eqb, true≢false, append-nil, decimal, bytes_eq}
+use Rattle.std.proofs.Common.{◌≡◌, ℕ, suc, ◌+◌, ◌^◌, ◌≤◌, ◌<◌, ◌&&◌, ◌||◌, not, Bool, true, false, cond, List, [], ◌∷◌, ◌++◌, length, refl, ap, sym, subst, ◌∙◌, arith, Option, Some, Result, Ok, Err, eqb, eq-eqb, append_assoc, ne_eqb, append-nil, decimal}
 use Rattle.seg_words.proofs.Lemmas.{nat_tests}
-use Rattle.seg_words.specs.Types.{list_all, list_any, AllByRecursion}
+use Rattle.seg_words.specs.Types.{list_all, AllByRecursion}
 use Rattle.std.specs.Str.Lines.{lines}
-use Rattle.script_text.specs.OwnTypes.{Statement, Turns, Draft, Form, Session, Schedule, Forms, Why, NotAStatement, SessionOrder, DuplicateLabel, ScriptFault}
-use Rattle.script_text.specs.Pieces.{words, number_of, is_text_byte, is_digit}
-use Rattle.script_text.specs.Forms.{is_open, word_of}
+use Rattle.script_text.specs.OwnTypes.{Statement, Turns, Draft, Session, Schedule, Forms, Why, NotAStatement, SessionOrder, DuplicateLabel, ScriptFault}
+use Rattle.script_text.specs.Pieces.{words, is_text_byte}
+use Rattle.script_text.specs.Forms.{word_of}
 use Rattle.script_text.specs.Rows.{row, ◌>>=◌}
 use Rattle.script_text.specs.Schedule.{items_of}
 use Rattle.script_text.specs.Script.{Script}
-use Rattle.script_text.specs.Grammar.{nothing_read, closed_of, script_of, is_empty, is_out_of_order, is_just, next_session, session_of, schedule_of, bound, added, rowed, formed, worded, line_of, at_line, goes_on, read_lines, scripts_of}
-use Rattle.script_text.specs.Spelled.{IsStatement, IsSpelled, IsTurns, IsScript, AreNew, labels_of, labels_in, most_sessions, form_of, behind, with_rest, statement_line, statement_lines, session_line, session_lines, item_text, items_text, schedule_line, printed}
+use Rattle.script_text.specs.Grammar.{nothing_read, closed_of, script_of, is_empty, is_just, next_session, session_of, schedule_of, bound, added, rowed, worded, line_of, at_line, goes_on, read_lines, scripts_of}
+use Rattle.script_text.specs.Spelled.{IsStatement, IsTurns, IsScript, AreNew, labels_of, labels_in, most_sessions, form_of, behind, with_rest, statement_line, statement_lines, session_line, session_lines, item_text, items_text, schedule_line, printed}
 use Rattle.script_text.proofs.Spellings.{number_says}
 use Rattle.script_text.proofs.RowsSaid.{row_says}
 use Rattle.script_text.proofs.ScheduleSaid.{items_say, all_append, all_weaker, item_is, is_item_byte}
 use Rattle.script_text.proofs.LinesSaid.{lines_front, statement_is_text, decimal_is_text, line_is}
-use Rattle.script_text.proofs.ScriptFits.{labels_append, most_few, AllSpelled}
+use Rattle.script_text.proofs.ScriptFits.{most_few, AllSpelled}
 use Rattle.script_text.specs.declared.statement.Statement.TheVariants as asks
 
 -- ---- from lines to lines

@@ -1,9 +1,9 @@
 -- What is spelled is read, and what is read has a spelling: the words of a line.
-use Rattle.std.proofs.Common.{◌≡◌, ℕ, zero, suc, ◌+◌, ◌^◌, ◌≤◌, ◌<◌, ◌==◌, ◌&&◌, ◌||◌, ◌⊎◌, not, Bool, true, false, cond, List, [], ◌∷◌, ◌++◌, length, fold, get_or, slice_index, nat_lt, nat_le, refl, ap, sym, ◌∙◌, arith, subst, rules, Option, Some, None, Result, Ok, Err, eqb, eq-eqb, append_assoc, codes, inl, inr, ne_eqb, lt-ltb, ltb-true, ltb-false, leb-true, le-leb, eqb-true, true≢false, decimal, bytes_eq, ok_or}
+use Rattle.std.proofs.Common.{◌≡◌, ℕ, zero, suc, ◌^◌, ◌≤◌, ◌<◌, ◌==◌, ◌&&◌, ◌⊎◌, not, Bool, true, false, cond, List, [], ◌∷◌, ◌++◌, length, fold, get_or, slice_index, nat_lt, nat_le, refl, ap, sym, ◌∙◌, arith, rules, Option, Some, None, Ok, Err, eq-eqb, codes, inl, inr, ne_eqb, lt-ltb, ltb-true, ltb-false, leb-true, le-leb, true≢false, decimal, bytes_eq}
 use Rattle.std.proofs.lemmas.Str.Parse.{IsNumeralModel, numerals_by_fold}
 use Rattle.std.proofs.lemmas.Fmt.{digits_decimal, digits_value-decimal, decimal_nonempty, first_decimal, decimal_digit, decimal-digits_value}
 use Rattle.seg_words.specs.Types.{list_all, is_name, is_name_byte}
-use Rattle.script_text.specs.Pieces.{cut, number_of, ordinal_of, is_number, is_digit, value_of, value_within, with_digit, is_text_byte}
+use Rattle.script_text.specs.Pieces.{cut, number_of, is_number, is_digit, value_of, value_within, with_digit}
 use Rattle.script_text.specs.Spelled.{IsText}
 use Rattle.script_text.specs.OwnTypes.{RowTooLong}
 use Rattle.script_text.specs.Rows.{text_of}

@@ -1,8 +1,8 @@
 -- The grammar of a script, line by line. This engine's own.
-use Rattle.std.specs.Prelude.{ℕ, ◌+◌, Bool, true, false, not, ◌&&◌, ◌||◌, ◌==◌, nat_le, if◌then◌else◌, List, [], ◌∷◌, ◌++◌, length, Option, Some, None, Result, Ok, Err, bytes_eq}
+use Rattle.std.specs.Prelude.{ℕ, ◌+◌, Bool, true, false, not, ◌&&◌, ◌||◌, ◌==◌, if◌then◌else◌, List, [], ◌∷◌, ◌++◌, Option, Some, None, Result, Ok, Err, bytes_eq}
 use Rattle.std.specs.Str.Lines.{lines}
 use Rattle.seg_words.specs.Types.{list_all, list_any, MOST_SESSIONS}
-use Rattle.script_text.specs.OwnTypes.{Statement, Turns, Form, Session, Schedule, Forms, Draft, Why, BadByte, SessionOrder, NotAStatement, DuplicateLabel, ScriptFault}
+use Rattle.script_text.specs.OwnTypes.{Statement, Form, Session, Schedule, Forms, Draft, Why, BadByte, SessionOrder, NotAStatement, DuplicateLabel, ScriptFault}
 use Rattle.script_text.specs.declared.why.ScriptFault.TheVariants.{BadLine}
 use Rattle.script_text.specs.Pieces.{cut, words, number_of, is_text_byte}
 use Rattle.script_text.specs.Forms.{form_of, is_open}

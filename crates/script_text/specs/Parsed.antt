@@ -1,5 +1,5 @@
 -- What the parser answers beside what the grammar says.
-use Rattle.std.specs.Prelude.{◌≡◌, ℕ, Result, Ok, Err}
+use Rattle.std.specs.Prelude.{◌≡◌, Result, Ok, Err}
 use Rattle.script_text.specs.OwnTypes.{Why, ScriptFault}
 use Rattle.script_text.specs.declared.why.LineFault.{LineFault}
 use Rattle.script_text.specs.declared.why.LineFault.TheVariants as line

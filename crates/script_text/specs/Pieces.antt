@@ -1,5 +1,5 @@
 -- Pieces of a line, and numbers in it.
-use Rattle.std.specs.Prelude.{ℕ, ◌+◌, ◌*◌, ◌-◌, Bool, true, false, ◌&&◌, not, ◌==◌, nat_le, nat_lt, if◌then◌else◌, List, [], ◌∷◌, length, slice_index, fold, Option, Some, None, is_none, option_and_then}
+use Rattle.std.specs.Prelude.{ℕ, ◌+◌, ◌*◌, ◌-◌, Bool, ◌&&◌, not, ◌==◌, nat_le, nat_lt, if◌then◌else◌, List, [], ◌∷◌, length, slice_index, fold, Option, Some, None, is_none, option_and_then}
 use Rattle.seg_words.specs.Types.{list_all}
 use Rattle.std.specs.List.{slice_split}
 

@@ -1,7 +1,7 @@
 -- The rows of the grammar: the statement of a line behind its first word. This engine's own.
-use Rattle.std.specs.Prelude.{ℕ, ◌^◌, ◌-◌, Bool, true, false, ◌||◌, ◌==◌, nat_le, if◌then◌else◌, List, [], ◌∷◌, length, Option, Some, None, Result, Ok, Err, ok_or, codes, bytes_eq}
+use Rattle.std.specs.Prelude.{ℕ, Bool, true, false, ◌||◌, ◌==◌, nat_le, if◌then◌else◌, List, [], ◌∷◌, length, Option, Some, None, Result, Ok, Err, ok_or, codes, bytes_eq}
 use Rattle.seg_words.specs.Types.{is_name, LONGEST_ROW, MOST_PCTFREE}
-use Rattle.script_text.specs.OwnTypes.{MOST_ROW_NUMBER, MOST_NUMBER, Statement, Target, Label, Number, Form, Session, Table, Movement, Insert, Update, Delete, Commit, Rollback, Scan, Shrink, Usage, Fix, Repair, Checkpoint, Schedule, Why, NotAStatement, BadName, BadNumber, RowEmpty, RowTooLong}
+use Rattle.script_text.specs.OwnTypes.{MOST_ROW_NUMBER, MOST_NUMBER, Statement, Target, Label, Number, Form, Table, Movement, Insert, Update, Delete, Commit, Rollback, Scan, Shrink, Usage, Fix, Repair, Checkpoint, Why, NotAStatement, BadName, BadNumber, RowEmpty, RowTooLong}
 use Rattle.script_text.specs.Pieces.{cut, last_word, number_of, ordinal_of, is_word}
 use Rattle.script_text.specs.declared.statement.Statement.TheVariants as asks
 

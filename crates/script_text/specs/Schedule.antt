@@ -1,5 +1,5 @@
 -- The items of a schedule line. This engine's own.
-use Rattle.std.specs.Prelude.{ℕ, Bool, true, false, ◌&&◌, not, if◌then◌else◌, List, [], ◌∷◌, ◌++◌, Option, Some, None, is_some, Result, Ok, Err, ok_or, codes, bytes_eq}
+use Rattle.std.specs.Prelude.{ℕ, Bool, ◌&&◌, not, if◌then◌else◌, List, [], ◌∷◌, ◌++◌, Option, Some, None, is_some, Result, Ok, Err, ok_or, codes, bytes_eq}
 use Rattle.seg_words.specs.Types.{list_all, list_any}
 use Rattle.script_text.specs.OwnTypes.{MOST_TURNS, Turns, Forms, Why, NotAStatement, BadNumber, ScheduleSession}
 use Rattle.script_text.specs.Pieces.{cut, is_number, number_of, ordinal_of}

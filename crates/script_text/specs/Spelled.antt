@@ -1,7 +1,7 @@
 -- The lines that scripts are printed as, and what has such lines.
 use Rattle.std.specs.Prelude.{◌≡◌, ℕ, ◌+◌, ◌<◌, ◌≤◌, Bool, true, false, ◌==◌, if◌then◌else◌, List, [], ◌∷◌, ◌++◌, length, Option, Some, None, codes, decimal, bytes_eq}
 use Rattle.seg_words.specs.Types.{list_all, list_any, AllByRecursion, is_name, LONGEST_ROW, MOST_PCTFREE, MOST_SESSIONS}
-use Rattle.script_text.specs.OwnTypes.{MOST_ROW_NUMBER, MOST_NUMBER, MOST_TURNS, Statement, Target, Label, Number, Turns, Form, Session, Table, Movement, Insert, Update, Delete, Commit, Rollback, Scan, Shrink, Usage, Fix, Repair, Checkpoint, Schedule, Forms}
+use Rattle.script_text.specs.OwnTypes.{MOST_ROW_NUMBER, MOST_NUMBER, MOST_TURNS, Statement, Target, Label, Number, Turns, Form, Table, Movement, Insert, Update, Delete, Commit, Rollback, Scan, Shrink, Usage, Fix, Repair, Checkpoint, Forms}
 use Rattle.script_text.specs.Forms.{word_of, is_open}
 use Rattle.script_text.specs.Pieces.{is_text_byte}
 use Rattle.script_text.specs.Script.{Script}

@@ -1,2 +1,3 @@
 pub mod StayingLaw
 pub mod RowsStayLaw
+pub mod ChangesLaw

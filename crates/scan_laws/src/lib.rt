@@ -1,7 +1,8 @@
-//! Laws of the redo list on which a scan stands that reads its blocks one by one while others change the table. Each is the
-//! contract of a function that does nothing.
+//! Laws of the redo list on which a scan stands that reads its blocks one by one while others change the table, and which commits
+//! and moves changed a row meanwhile. Each is the contract of a function that does nothing.
 #![tactic(auto)]
 
+ghost use Rattle.scan_laws.specs.Changes.{ChangesTell};
 ghost use Rattle.scan_laws.specs.RowsStay.{RowsOfBlocksStay};
 ghost use Rattle.scan_laws.specs.Staying.{IncarnationsTellReleases, ReleasedAreGone, RowBlocksStay, RowBlocksStaySince, UnreleasedAreRead};
 
@@ -34,4 +35,10 @@ pub fn incarnations_tell_releases()
 /// formatted again.
 pub fn rows_of_blocks_stay()
     ensures { RowsOfBlocksStay }
+{}
+
+/// Which commits and moves changed or moved a row between two commit numbers; where none did, the row is the same in the table at
+/// both.
+pub fn changes_tell()
+    ensures { ChangesTell }
 {}

@@ -200,7 +200,6 @@ room_back R t b f h l r =
 
 -- a step
 
--- the first part that names a slot
 -- a part puts what its place among those of the step asks for
 abbrev pub PutSome : List Record → Step → RowPart → Type 0
 PutSome R st p = (i : ℕ) × Puts R st i p
@@ -209,6 +208,7 @@ pub put_some : (R : List Record) (st : Step) (i : ℕ) (ps : List RowPart) → A
 put_some R st i [] h = tt
 put_some R st i (p ∷ ps) h = ((i, h.0), put_some R st (suc i) ps h.1)
 
+-- the first part that names a slot
 pub record FirstPart (R : List Record) (st : Step) (Q : RowPart → Type 0) (b k : ℕ) (im new : Slot) : Type 0 where
   pub part : RowPart
   pub place : ℕ

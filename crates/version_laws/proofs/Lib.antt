@@ -1,0 +1,10 @@
+pub mod Makers
+pub mod SlotLaw
+pub mod TableLaw
+pub mod Newest
+pub mod NewestLaw
+pub mod Falling
+pub mod Reached
+pub mod EndLaw
+pub mod Begun
+pub mod Linking

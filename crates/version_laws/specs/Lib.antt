@@ -1,0 +1,9 @@
+pub mod Pages
+pub mod Known
+pub mod Tables
+pub mod Ends
+pub mod Newest
+pub mod Walks
+pub mod Beginning
+pub mod Previous
+pub mod Types

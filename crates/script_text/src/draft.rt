@@ -132,10 +132,11 @@ fn bind(alloc: Global, labels: &mut Labels, statement: &Statement) -> Result<(),
     let Statement::Insert { label, .. } = statement else {
         return Ok(());
     };
-    if labels.is_bound(label.as_slice()) {
-        return Err(LineFault::Bad(Why::DuplicateLabel));
+    if labels.bind(alloc, label.as_slice())? {
+        Ok(())
+    } else {
+        Err(LineFault::Bad(Why::DuplicateLabel))
     }
-    Ok(labels.bind(alloc, label.as_slice())?)
 }
 
 /// Adds a statement to the open session.

@@ -1,5 +1,6 @@
 // The labels of a script.
-ghost use Rattle.std.specs.Prelude.{◌≡◌, [], ◌∷◌, ◌++◌, IfOk, MatchBool, true, false, bytes_eq};
+ghost use Rattle.std.specs.Prelude.{◌≡◌, [], ◌∷◌, ◌++◌, IfOk, not, bytes_eq};
+ghost use Rattle.std.specs.Bool.{OnTrue};
 ghost use Rattle.seg_words.specs.Types.{list_any};
 
 use indexmap::IndexSet;
@@ -30,19 +31,13 @@ impl Labels {
         }
     }
 
-    pub fn is_bound(&self, label: &[u8]) -> bool
-        ensures { result ≡ list_any (bytes_eq label.now) self.now }
-    {
-        self.set.contains(label)
-    }
-
-    /// Binds a label that isn't bound yet.
-    pub fn bind(&mut self, alloc: Global, label: &[u8]) -> Result<(), NoMemory>
-        requires { list_any (bytes_eq label.now) self.old ≡ false }
-        ensures { IfOk result (λ _. self.new ≡ self.old ++ label.now ∷ []) }
+    /// Binds a label, and tells whether it wasn't bound before. One that was stays as it is.
+    pub fn bind(&mut self, alloc: Global, label: &[u8]) -> Result<bool, NoMemory>
+        ensures new { IfOk result (λ new. new ≡ not (list_any (bytes_eq label.now) self.old)) }
+        ensures bound { IfOk result (λ new. OnTrue new (self.new ≡ self.old ++ label.now ∷ [])) }
     {
         let key = Vec::from_slice(alloc, label)?;
-        self.set.insert(key)?;
-        Ok(())
+        let (_, new) = self.set.insert_full(key)?;
+        Ok(new)
     }
 }

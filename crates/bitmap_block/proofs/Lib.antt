@@ -1,3 +1,4 @@
 pub mod BestOf
 pub mod Reading
 pub mod Forms
+pub mod Clearing

@@ -1,7 +1,7 @@
 -- Class codes in a bitmap block: 0 for a block that isn't formatted or no data, 1 for a full one, 2 to 5 for quarters of
 -- free space. Oracle Database Concepts: a bitmap in the segment tells the status of each block. The codes and the levels
 -- are this engine's own.
-use Rattle.std.specs.Prelude.{◌≡◌, ℕ, ◌<◌, ◌≤◌, min, max, nat_lt, if◌then◌else◌, List, [], ◌∷◌, length, map, take, slice_index}
+use Rattle.std.specs.Prelude.{◌≡◌, ℕ, ◌<◌, ◌≤◌, min, max, nat_lt, if◌then◌else◌, List, [], ◌∷◌, length, map, take, slice_index, ◌++◌, drop, replicate}
 
 -- a code from 2 on, else 0
 abbrev pub good_code : ℕ → ℕ
@@ -24,3 +24,7 @@ pub record HasCodes (n : ℕ) (codes : List ℕ) : Type 0 where
 -- the first n of these bytes as codes, each as the nearest that there is
 abbrev pub codes_in : ℕ → List ℕ → List ℕ
 codes_in n bytes = map (λ b. min b 5) (take n bytes)
+
+-- n codes of which those from the ith on are taken away
+abbrev pub cleared_from : ℕ → ℕ → List ℕ → List ℕ
+cleared_from n i codes = take i codes ++ drop i (replicate n 0)

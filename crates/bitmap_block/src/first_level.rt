@@ -44,6 +44,25 @@ impl L1 {
         }
     }
 
+    pub fn duplicate(&self) -> L1
+        ensures { result ≡ self.now }
+    {
+        let codes = self.codes;
+        L1 {
+            dba: self.dba,
+            lsn: self.lsn,
+            incarnation: self.incarnation,
+            codes,
+        }
+    }
+
+    pub fn set_lsn(&mut self, lsn: Lsn)
+        ensures { self.new ≡ record self.old { lsn = lsn } }
+    {
+        let _codes = &self.codes;
+        self.lsn = lsn;
+    }
+
     pub fn dba(&self) -> Dba
         ensures { result ≡ self.now.dba }
     {

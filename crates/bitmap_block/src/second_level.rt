@@ -1,6 +1,6 @@
 // The bitmap above the extents.
 ghost use Rattle.std.specs.Prelude.{◌≡◌, ◌<◌, ◌≤◌, replicate, slice_index, slice_set};
-ghost use Rattle.bitmap_block.specs.Codes.{best_of};
+ghost use Rattle.bitmap_block.specs.Codes.{best_of, cleared_from};
 ghost use Rattle.bitmap_block.specs.Pages.{IsSummary};
 
 use crate::best::best_of;
@@ -31,6 +31,17 @@ impl Model for L2 {
     ghost invariant = { λ m. HasCodes EXTENTS_OF_L2 m.codes };
 }
 
+/// The first so many codes, and none behind them.
+fn front_of(codes: &[u8; EXTENTS_OF_L2], count: u16) -> [u8; EXTENTS_OF_L2]
+    requires { count ≤ EXTENTS_OF_L2 }
+    ensures { result ≡ cleared_from EXTENTS_OF_L2 count codes.now }
+{
+    let count = usize::from(count);
+    let mut front = [0; EXTENTS_OF_L2];
+    front[..count].copy_from_slice(&codes[..count]);
+    front
+}
+
 impl L2 {
     pub fn new(dba: Dba) -> L2
         ensures { result ≡ record { dba = dba; lsn = 0; codes = replicate EXTENTS_OF_L2 0 } }
@@ -41,6 +52,24 @@ impl L2 {
             lsn: Lsn(0),
             codes,
         }
+    }
+
+    pub fn duplicate(&self) -> L2
+        ensures { result ≡ self.now }
+    {
+        let codes = self.codes;
+        L2 {
+            dba: self.dba,
+            lsn: self.lsn,
+            codes,
+        }
+    }
+
+    pub fn set_lsn(&mut self, lsn: Lsn)
+        ensures { self.new ≡ record self.old { lsn = lsn } }
+    {
+        let _codes = &self.codes;
+        self.lsn = lsn;
     }
 
     pub fn dba(&self) -> Dba
@@ -71,6 +100,15 @@ impl L2 {
         ensures { self.new ≡ record self.old { codes = slice_set self.old.codes i code } }
     {
         self.codes[usize::from(i)] = code;
+    }
+
+    /// Takes away the codes from the ith L1 on.
+    pub fn clear_from(&mut self, first: u16)
+        requires { first ≤ EXTENTS_OF_L2 }
+        ensures { self.new ≡ record self.old { codes = cleared_from EXTENTS_OF_L2 first self.old.codes } }
+    {
+        let codes = front_of(&self.codes, first);
+        self.codes = codes;
     }
 
     /// The greatest code from 2 on, else 0.

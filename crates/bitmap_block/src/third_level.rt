@@ -42,6 +42,24 @@ impl L3 {
         }
     }
 
+    pub fn duplicate(&self) -> L3
+        ensures { result ≡ self.now }
+    {
+        let codes = self.codes;
+        L3 {
+            dba: self.dba,
+            lsn: self.lsn,
+            codes,
+        }
+    }
+
+    pub fn set_lsn(&mut self, lsn: Lsn)
+        ensures { self.new ≡ record self.old { lsn = lsn } }
+    {
+        let _codes = &self.codes;
+        self.lsn = lsn;
+    }
+
     pub fn dba(&self) -> Dba
         ensures { result ≡ self.now.dba }
     {

@@ -2,3 +2,4 @@ pub mod Extents
 pub mod Forms
 pub mod Searching
 pub mod Headings
+pub mod Marking

@@ -1,8 +1,9 @@
 -- The space bitmap: which extents of the store are in use (Oracle Database Concepts, "Extent Management": a locally
 -- managed tablespace tracks extents in bitmaps). The layout is this engine's own.
-use Rattle.std.specs.Prelude.{◌≡◌, ℕ, ◌-◌, ◌*◌, ◌/◌, ◌%◌, ◌<◌, ◌^◌, ◌==◌, Bool, true, false, List, ◌++◌, length, slice_index, slice_set, take, drop, Option, MatchOption}
+use Rattle.std.specs.Prelude.{◌≡◌, ℕ, ◌-◌, ◌*◌, ◌/◌, ◌%◌, ◌<◌, ◌^◌, ◌==◌, Bool, true, false, List, ◌++◌, length, slice_index, slice_set, take, drop, Option, MatchOption, cond, bit_and, bit_or}
 use Rattle.seg_words.specs.Types.{w32, w64, to_be_bytes, number_in}
 use Rattle.page_bytes.specs.Types.{page_of, head_bytes}
+use Rattle.std.specs.Int.{w8, bit_not}
 
 -- how often a table's marks were lowered, and a bit for each of 2,043 extents in 256 bytes
 pub record Space : Type 0 where
@@ -14,6 +15,13 @@ pub record Space : Type 0 where
 -- extent x is in use: the first extent of a byte has its highest bit
 abbrev pub is_used : List ℕ → ℕ → Bool
 is_used bits x = slice_index bits (x / 8) / 2 ^ (7 - x % 8) % 2 == 1
+
+abbrev pub with_bit : ℕ → ℕ → Bool → ℕ
+with_bit b k on = cond on (bit_or b (1 * 2 ^ k % 2 ^ 8)) (bit_and b (bit_not w8 (1 * 2 ^ k % 2 ^ 8)))
+
+-- the bits with that of one extent written anew
+abbrev pub with_extent : List ℕ → ℕ → Bool → List ℕ
+with_extent bits x used = slice_set bits (x / 8) (with_bit (slice_index bits (x / 8)) (7 - x % 8) used)
 
 -- each extent below n is in use
 abbrev pub AreUsed : List ℕ → ℕ → Type 0

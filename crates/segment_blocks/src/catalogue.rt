@@ -1,6 +1,6 @@
 // The catalogue, block 2.
-ghost use Rattle.std.specs.Prelude.{◌≡◌, ◌≤◌, ◌+◌, ◌<◌, length, IfSome, position};
-ghost use Rattle.segment_blocks.specs.Catalogues.{has_table, header_of_table, header_of, is_named, spelling_of_tables, table_count, table_named};
+ghost use Rattle.std.specs.Prelude.{◌≡◌, ◌≤◌, ◌+◌, ◌<◌, length, IfSome, position, ◌-◌, ◌++◌, replicate, slice_set, Some, IfOk, OnOk};
+ghost use Rattle.segment_blocks.specs.Catalogues.{has_table, header_of_table, header_of, is_named, spelling_of_tables, table_count, table_named, no_table};
 
 use crate::entry::{CatalogueEntry, NamedTable};
 use page_bytes::{PageForm, add, add_all, begin, head_bytes, number_u32, number_u64, read_all};
@@ -76,7 +76,68 @@ fn header_of(entries: &[CatalogueEntry], number: u8) -> Option<Dba>
     header(&entries[at])
 }
 
+/// Adds so many entries of no table.
+fn add_none(entries: &mut Vec<CatalogueEntry>, count: u8) -> Result<(), NoMemory>
+    ensures { OnOk result (entries.new.items ≡ entries.old.items ++ replicate count no_table) }
+{
+    for _ in 0..count {
+        entries.push(CatalogueEntry { table: None })?;
+    }
+    Ok(())
+}
+
+fn copies(alloc: Global, entries: &[CatalogueEntry]) -> Result<Vec<CatalogueEntry>, NoMemory>
+    ensures { IfOk result (λ copies. copies.items ≡ entries.now) }
+{
+    let mut copies = Vec::new(alloc);
+    for entry in entries {
+        copies.push(entry.duplicate(alloc)?)?;
+    }
+    Ok(copies)
+}
+
 impl Catalogue {
+    /// The catalogue of a store without a table.
+    pub fn new(alloc: Global, dba: Dba) -> Result<Catalogue, NoMemory>
+        ensures { IfOk result (λ c. c ≡ record { dba = dba; lsn = 0; entries = replicate MOST_TABLES no_table }) }
+    {
+        let mut entries = Vec::new(alloc);
+        add_none(&mut entries, MOST_TABLES)?;
+        Ok(Catalogue {
+            dba,
+            lsn: Lsn(0),
+            entries,
+        })
+    }
+
+    pub fn duplicate(&self, alloc: Global) -> Result<Catalogue, NoMemory>
+        ensures { IfOk result (λ c. c ≡ self.now) }
+    {
+        let entries = copies(alloc, &self.entries)?;
+        Ok(Catalogue {
+            dba: self.dba,
+            lsn: self.lsn,
+            entries,
+        })
+    }
+
+    pub fn set_lsn(&mut self, lsn: Lsn)
+        ensures { self.new ≡ record self.old { lsn = lsn } }
+    {
+        let _entries = &self.entries;
+        self.lsn = lsn;
+    }
+
+    /// Keeps the name of a table and the block of its header.
+    pub fn put(&mut self, obj: Obj, table: NamedTable)
+        requires least { 1 ≤ obj }
+        requires most { obj ≤ MOST_TABLES }
+        ensures { self.new ≡ record self.old { entries = slice_set self.old.entries (obj - 1) (record { table = Some table }) } }
+    {
+        let _dba = self.dba;
+        self.entries[usize::from(obj.0) - 1] = CatalogueEntry { table: Some(table) };
+    }
+
     pub fn dba(&self) -> Dba
         ensures { result ≡ self.now.dba }
     {

@@ -38,6 +38,17 @@ impl CheckpointPage {
         }
     }
 
+    pub fn duplicate(&self) -> CheckpointPage
+        ensures { result ≡ self.now }
+    {
+        CheckpointPage {
+            dba: self.dba,
+            length: self.length,
+            end_gate: self.end_gate,
+            commits: self.commits,
+        }
+    }
+
     pub fn dba(&self) -> Dba
         ensures { result ≡ self.now.dba }
     {

@@ -20,6 +20,29 @@ pub struct CatalogueEntry {
     pub table: Option<NamedTable>,
 }
 
+fn table_copy(alloc: Global, table: &NamedTable) -> Result<NamedTable, NoMemory>
+    ensures { IfOk result (λ copy. copy ≡ table.now) }
+{
+    Ok(NamedTable {
+        name: table.name.duplicate(alloc)?,
+        header: table.header,
+    })
+}
+
+impl CatalogueEntry {
+    pub fn duplicate(&self, alloc: Global) -> Result<CatalogueEntry, NoMemory>
+        ensures { IfOk result (λ entry. entry ≡ self.now) }
+    {
+        match &self.table {
+            None => Ok(CatalogueEntry { table: None }),
+            Some(table) => {
+                let copy = table_copy(alloc, table)?;
+                Ok(CatalogueEntry { table: Some(copy) })
+            }
+        }
+    }
+}
+
 static ZEROS: [u8; 64] = [0; 64];
 
 /// The bytes of a name in an entry's 64 bytes, as far as they can be one.

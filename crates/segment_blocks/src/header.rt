@@ -1,5 +1,5 @@
 // A segment's header.
-ghost use Rattle.std.specs.Prelude.{◌≡◌, ◌≤◌, ◌^◌, ◌<◌, [], false, List, ℕ, length, IfOk};
+ghost use Rattle.std.specs.Prelude.{◌≡◌, ◌≤◌, ◌^◌, ◌<◌, [], false, List, ℕ, length, IfOk, ◌++◌, ◌∷◌, take, OnOk, OnErr};
 ghost use Rattle.segment_blocks.specs.Headers.{Header, flag, fields_of, is_on, obj_in, extent_at, header_with, spelling_of_header};
 
 use crate::extent::ExtentNumber;
@@ -56,6 +56,63 @@ impl SegmentHeader {
             high: 0,
             extents: Vec::new(alloc),
         }
+    }
+
+    pub fn duplicate(&self, alloc: Global) -> Result<SegmentHeader, NoMemory>
+        ensures { IfOk result (λ header. header ≡ self.now) }
+    {
+        Ok(SegmentHeader {
+            dba: self.dba,
+            lsn: self.lsn,
+            obj: self.obj,
+            pctfree: self.pctfree,
+            movement: self.movement,
+            low: self.low,
+            high: self.high,
+            extents: Vec::from_slice(alloc, &self.extents)?,
+        })
+    }
+
+    pub fn set_lsn(&mut self, lsn: Lsn)
+        ensures { self.new ≡ record self.old { lsn = lsn } }
+    {
+        let _extents = &self.extents;
+        self.lsn = lsn;
+    }
+
+    pub fn set_movement(&mut self, on: bool)
+        ensures { self.new ≡ record self.old { movement = on } }
+    {
+        let _extents = &self.extents;
+        self.movement = on;
+    }
+
+    /// Moves the low and the high water mark, in data blocks.
+    pub fn set_marks(&mut self, low: u32, high: u32)
+        ensures { self.new ≡ record self.old { low = low; high = high } }
+    {
+        let _extents = &self.extents;
+        self.low = low;
+        self.high = high;
+    }
+
+    /// Adds an extent behind the others. Without memory nothing is added.
+    pub fn add_extent(&mut self, extent: u32) -> Result<(), NoMemory>
+        requires { length self.old.extents < MOST_EXTENTS }
+        ensures ok { OnOk result (self.new ≡ record self.old { extents = self.old.extents ++ extent ∷ [] }) }
+        ensures err { OnErr result (self.new ≡ self.old) }
+    {
+        let _obj = self.obj;
+        self.extents.push(ExtentNumber(extent))?;
+        Ok(())
+    }
+
+    /// Gives the extents from this index on away.
+    pub fn keep_extents(&mut self, kept: u16)
+        ensures { self.new ≡ record self.old { extents = take kept self.old.extents } }
+    {
+        let _obj = self.obj;
+        self.extents.truncate(usize::from(kept));
     }
 
     pub fn dba(&self) -> Dba

@@ -1,6 +1,6 @@
 // The space bitmap, block 3.
 ghost use Rattle.std.specs.Prelude.{◌≡◌, ◌<◌, ◌≤◌, ◌^◌, ◌-◌, length, not, replicate, IfOk};
-ghost use Rattle.segment_blocks.specs.Spaces.{is_used, Finds, spelling_of_space, bits_in, HasBits, IsSpace};
+ghost use Rattle.segment_blocks.specs.Spaces.{is_used, Finds, spelling_of_space, bits_in, HasBits, IsSpace, with_bit, with_extent};
 
 use page_bytes::{PageForm, add, begin, head_bytes, in_range, number_u32, number_u64};
 use seg_base::{BLOCK_SIZE, Dba, Lsn, NoMemory};
@@ -54,6 +54,19 @@ fn is_used(bits: &[u8; 256], extent: u32) -> bool
     byte / weight(extent % 8) % 2 == 1
 }
 
+/// A byte with one of its bits written anew, the lowest being bit 0.
+fn with_bit(byte: u8, bit: u32, on: bool) -> u8
+    requires { bit < 8 }
+    ensures value { result ≡ with_bit byte bit on }
+    ensures range { byte < 256 }
+{
+    if on {
+        byte | 1 << bit
+    } else {
+        byte & !(1 << bit)
+    }
+}
+
 impl SpaceBitmap {
     /// The bitmap of a store without a table.
     pub fn new(dba: Dba) -> SpaceBitmap
@@ -66,6 +79,42 @@ impl SpaceBitmap {
             lowerings: 0,
             bits,
         }
+    }
+
+    pub fn duplicate(&self) -> SpaceBitmap
+        ensures { result ≡ self.now }
+    {
+        let bits = self.bits;
+        SpaceBitmap {
+            dba: self.dba,
+            lsn: self.lsn,
+            lowerings: self.lowerings,
+            bits,
+        }
+    }
+
+    pub fn set_lsn(&mut self, lsn: Lsn)
+        ensures { self.new ≡ record self.old { lsn = lsn } }
+    {
+        let _bits = &self.bits;
+        self.lsn = lsn;
+    }
+
+    pub fn set_lowerings(&mut self, lowerings: u64)
+        ensures { self.new ≡ record self.old { lowerings = lowerings } }
+    {
+        let _bits = &self.bits;
+        self.lowerings = lowerings;
+    }
+
+    /// Keeps whether an extent is in use.
+    pub fn mark(&mut self, extent: u32, used: bool)
+        requires { extent < 2043 }
+        ensures { self.new ≡ record self.old { bits = with_extent self.old.bits extent used } }
+    {
+        let at = (extent / 8) as usize;
+        let byte = self.bits[at];
+        self.bits[at] = with_bit(byte, 7 - extent % 8, used);
     }
 
     pub fn dba(&self) -> Dba

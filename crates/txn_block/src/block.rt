@@ -1,10 +1,10 @@
 // The transaction table.
-ghost use Rattle.std.specs.Prelude.{◌≡◌, ◌<◌, ◌≤◌, ◌^◌, [], replicate, ◌++◌, length, slice_get, position, option_copied, IfOk, IfSome, None, flat_map};
+ghost use Rattle.std.specs.Prelude.{◌≡◌, ◌<◌, ◌≤◌, ◌^◌, [], replicate, ◌++◌, length, slice_get, position, option_copied, IfOk, IfSome, None, flat_map, slice_set, Some};
 ghost use Rattle.txn_block.specs.declared.entry.TableEntry.TheVariants.{Unused};
 ghost use Rattle.txn_block.specs.Entries.{names, state_in, state_told, last_undo_in, undo_told, told};
 ghost use Rattle.txn_block.specs.Tables.{TxnTable, TakesNext};
 ghost use Rattle.page_bytes.specs.Types.{page_of};
-ghost use Rattle.txn_block.specs.EntryBytes.{entry_bytes};
+ghost use Rattle.txn_block.specs.EntryBytes.{entry_bytes, IsEntry};
 ghost use Rattle.txn_block.specs.Pages.{IsTable, BlockFits, block_from};
 
 use crate::entry::{State, TableEntry, state_of_outcome};
@@ -58,6 +58,68 @@ impl TxnBlock {
             current_undo: None,
             entries: Vec::from_slice(alloc, &[TableEntry::Unused; ENTRIES])?,
         })
+    }
+
+    pub fn duplicate(&self, alloc: Global) -> Result<TxnBlock, NoMemory>
+        ensures { IfOk result (λ t. t ≡ self.now) }
+    {
+        Ok(TxnBlock {
+            dba: self.dba,
+            lsn: self.lsn,
+            control: self.control,
+            last_txn: self.last_txn,
+            last_row: self.last_row,
+            current_undo: self.current_undo,
+            entries: Vec::from_slice(alloc, &self.entries)?,
+        })
+    }
+
+    pub fn set_lsn(&mut self, lsn: Lsn)
+        ensures { self.new ≡ record self.old { lsn = lsn } }
+    {
+        let _entries = &self.entries;
+        self.lsn = lsn;
+    }
+
+    pub fn set_last_row(&mut self, row: RowNo)
+        ensures { self.new ≡ record self.old { last_row = row } }
+    {
+        let _entries = &self.entries;
+        self.last_row = row;
+    }
+
+    pub fn set_begun(&mut self, txn: TxnId, control: Scn)
+        ensures { self.new ≡ record self.old { last_txn = txn; control = control } }
+    {
+        let _entries = &self.entries;
+        self.last_txn = txn;
+        self.control = control;
+    }
+
+    pub fn set_current_undo(&mut self, block: u32)
+        requires { 0 < block }
+        ensures { self.new ≡ record self.old { current_undo = Some block } }
+    {
+        let _entries = &self.entries;
+        self.current_undo = Some(block);
+    }
+
+    /// What stands in an entry.
+    #[tactic(auto, using(crate::proofs::Standing::entry_fits))]
+    pub fn table_entry(&self, i: u8) -> Option<TableEntry>
+        ensures value { result ≡ slice_get self.now.entries i }
+        ensures fits { IfSome result IsEntry }
+    {
+        self.entries.get(usize::from(i)).copied()
+    }
+
+    pub fn put_entry(&mut self, i: u8, entry: TableEntry)
+        requires place { i < TXN_ENTRIES }
+        requires entry { IsEntry entry }
+        ensures { self.new ≡ record self.old { entries = slice_set self.old.entries i entry } }
+    {
+        let _undo = &self.current_undo;
+        self.entries[usize::from(i)] = entry;
     }
 
     pub fn dba(&self) -> Dba

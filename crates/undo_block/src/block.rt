@@ -8,7 +8,7 @@ use crate::fault::UndoFault;
 use crate::part::Part;
 use crate::parts::Parts;
 use page_bytes::PageForm;
-use seg_base::{BLOCK_ROOM, BLOCK_SIZE, Dba, Ended, Lsn, MOST_UNDO_PARTS, TxnId};
+use seg_base::{BLOCK_ROOM, BLOCK_SIZE, Dba, Ended, Lsn, MOST_UNDO_PARTS, NoMemory, TxnId};
 use std::alloc::Global;
 use std::marker::Model;
 
@@ -80,6 +80,37 @@ impl UndoBlock {
             sequence: 0,
             parts: Parts::new(alloc),
         }
+    }
+
+    /// A block that is taken into use.
+    pub fn renewed(alloc: Global, dba: Dba, sequence: u64) -> UndoBlock
+        ensures { result ≡ record { dba = dba; lsn = 0; sequence = sequence; parts = [] } }
+    {
+        UndoBlock {
+            dba,
+            lsn: Lsn(0),
+            sequence,
+            parts: Parts::new(alloc),
+        }
+    }
+
+    /// The LSN of the last record that changed the block.
+    pub fn set_lsn(&mut self, lsn: Lsn)
+        ensures { self.new ≡ record self.old { lsn = lsn } }
+    {
+        self.lsn = lsn;
+    }
+
+    pub fn duplicate(&self, alloc: Global) -> Result<UndoBlock, NoMemory>
+        ensures { IfOk result (λ block. block ≡ self.now) }
+    {
+        let parts = self.parts.duplicate(alloc)?;
+        Ok(UndoBlock {
+            dba: self.dba,
+            lsn: self.lsn,
+            sequence: self.sequence,
+            parts,
+        })
     }
 
     pub(crate) fn from_parts(dba: Dba, lsn: Lsn, sequence: u64, parts: Parts) -> UndoBlock
@@ -157,6 +188,16 @@ impl UndoBlock {
     {
         let first = self.parts.count();
         self.parts.append(parts)?;
+        Ok(first)
+    }
+
+    /// The same with parts that are handed over, so that none is copied.
+    pub fn append_owned(&mut self, parts: Vec<Part>) -> Result<u8, UndoFault>
+        ensures parts { AppendsAt self.old.parts self.new.parts parts.items result }
+        ensures others { self.new ≡ record self.old { parts = self.new.parts } }
+    {
+        let first = self.parts.count();
+        self.parts.append_owned(parts)?;
         Ok(first)
     }
 

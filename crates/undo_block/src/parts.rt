@@ -54,6 +54,16 @@ impl Parts {
         self.parts.len() as u8
     }
 
+    pub fn duplicate(&self, alloc: Global) -> Result<Parts, NoMemory>
+        ensures { IfOk result (λ parts. parts ≡ self.now) }
+    {
+        let parts = copies(alloc, &self.parts)?;
+        Ok(Parts {
+            parts,
+            used: self.used,
+        })
+    }
+
     pub fn as_slice(&self) -> &[Part]
         ensures same { result.now ≡ self.now }
         ensures used { used_by self.now ≤ BLOCK_ROOM }
@@ -86,6 +96,22 @@ impl Parts {
             return Err(UndoFault::NoRoom { need, free });
         }
         let mut more = copies(*self.parts.allocator(), parts)?;
+        self.parts.append(&mut more)?;
+        self.used += need;
+        Ok(())
+    }
+
+    /// Adds these parts behind the others, all or none, without a copy.
+    #[tactic(auto, using(crate::proofs::Sizes::used_append))]
+    pub fn append_owned(&mut self, parts: Vec<Part>) -> Result<(), UndoFault>
+        ensures { Appends self.old self.new parts.items result }
+    {
+        let need = need_of(&parts);
+        let free = ROOM - self.used;
+        if free < need {
+            return Err(UndoFault::NoRoom { need, free });
+        }
+        let mut more = parts;
         self.parts.append(&mut more)?;
         self.used += need;
         Ok(())

@@ -107,7 +107,7 @@ impl Parts {
         ensures { Appends self.old self.new parts.items result }
     {
         let need = need_of(&parts);
-        let free = ROOM - self.used;
+        let free = BLOCK_ROOM as u16 - self.used;
         if free < need {
             return Err(UndoFault::NoRoom { need, free });
         }

@@ -1,0 +1,15 @@
+pub mod Faults
+pub mod Among
+pub mod Rows
+pub mod Undo
+pub mod Txns
+pub mod Maps
+pub mod Catalogues
+pub mod Spaces
+pub mod Headers
+pub mod Pages
+pub mod Started
+pub mod Changes
+pub mod Folded
+pub mod Says
+pub mod Spelled

@@ -1,0 +1,38 @@
+-- What a record does to the page of an undo block, and when it can be done.
+use Rattle.std.specs.Prelude.{◌≡◌, ℕ, ◌+◌, ◌≤◌, cond, eqb, List, [], ◌∷◌, ◌++◌, length, Option}
+use Rattle.seg_base.specs.declared.undo.UndoPlace.{UndoPlace}
+use Rattle.seg_base.specs.declared.slot.Writer.{Writer}
+use Rattle.seg_base.specs.declared.slot.Writer.TheVariants.{By, At}
+use Rattle.undo_block.specs.declared.part.Part.{Part}
+use Rattle.undo_block.specs.Parts.{used_by}
+use Rattle.undo_block.specs.UndoPage.{UndoPage}
+use Rattle.redo_record.specs.declared.part.RowPart.{RowPart}
+use Rattle.redo_model.specs.Effects.{Step, Effect, Adds}
+
+-- the transaction of a part: a move has none
+abbrev pub txn_of : Writer → ℕ
+txn_of (By t) = t
+txn_of (At c) = 0
+
+-- the old images of some parts, as the undo block keeps them: of a record of n parts
+abbrev pub kept_parts : ℕ → Option UndoPlace → ℕ → List RowPart → List Part
+kept_parts t previous n [] = []
+kept_parts t previous n (p ∷ ps) = record { txn = t; previous = previous; dba = p.dba; slot = p.slot; parts = n; old = p.old } ∷ kept_parts t previous n ps
+
+-- the parts that a step keeps in its undo block
+abbrev pub parts_of : Step → List Part
+parts_of st = kept_parts (txn_of st.by) st.previous (length st.parts) st.parts
+
+abbrev pub undo_changed : Effect → ℕ → List Part → List Part
+undo_changed (Adds st) u ps = cond (eqb st.undo.block u) (ps ++ parts_of st) ps
+undo_changed _ u ps = ps
+
+abbrev pub undo_after : Effect → ℕ → UndoPage → UndoPage
+undo_after e lsn u = record { dba = u.dba; lsn = lsn; sequence = u.sequence; parts = undo_changed e u.dba u.parts }
+
+abbrev pub StepFits : Step → UndoPage → Type 0
+StepFits st u = (st.undo.block ≡ u.dba) × (used_by u.parts + used_by (parts_of st) ≤ 4032)
+
+abbrev pub PartsFit : Effect → UndoPage → Type 0
+PartsFit (Adds st) u = StepFits st u
+PartsFit _ u = ⊥

@@ -1,0 +1,64 @@
+// What a record does to a segment's header.
+ghost use Rattle.std.specs.Prelude.{◌≡◌, OnOk, IfErr};
+ghost use Rattle.page_set.specs.Faults.{Kept};
+ghost use Rattle.page_set.specs.Headers.{header_changed, header_after, HeaderFits};
+ghost use Rattle.page_set.specs.declared.fault.Unfit.TheVariants as faults;
+ghost use Rattle.redo_record.specs.declared.record.Record.TheVariants.{Extend, Lower};
+
+use crate::fault::Unfit;
+use redo_record::{ExtendRecord, LowerRecord, Record};
+use seg_base::Lsn;
+use segment_blocks::SegmentHeader;
+
+fn add_extent(header: &mut SegmentHeader, e: &ExtendRecord) -> Result<(), Unfit>
+    ensures done { OnOk result (header.new ≡ header_changed (Extend e.now) header.old) }
+    ensures fault { HeaderFits (Extend e.now) header.old → IfErr result (λ e. e ≡ faults.NoMemory) }
+    ensures kept { Kept result header.old header.new }
+{
+    if header.extents() >= 900 {
+        return Err(Unfit::Misfit);
+    }
+    header.add_extent(e.extent)?;
+    Ok(())
+}
+
+fn lower(header: &mut SegmentHeader, l: &LowerRecord)
+    ensures { header.new ≡ header_changed (Lower l.now) header.old }
+{
+    header.set_marks(l.low, l.high);
+    header.keep_extents(l.kept);
+}
+
+fn change(header: &mut SegmentHeader, rec: &Record) -> Result<(), Unfit>
+    ensures done { OnOk result (header.new ≡ header_changed rec.now header.old) }
+    ensures fault { HeaderFits rec.now header.old → IfErr result (λ e. e ≡ faults.NoMemory) }
+    ensures kept { Kept result header.old header.new }
+{
+    match rec {
+        Record::Table(_) => Ok(()),
+        Record::Movement(m) => {
+            header.set_movement(m.on);
+            Ok(())
+        }
+        Record::Extend(e) => add_extent(header, e),
+        Record::Advance(a) => {
+            header.set_marks(a.low, a.high);
+            Ok(())
+        }
+        Record::Lower(l) => {
+            lower(header, l);
+            Ok(())
+        }
+        _ => Err(Unfit::Misfit),
+    }
+}
+
+pub fn change_header(header: &mut SegmentHeader, rec: &Record, lsn: Lsn) -> Result<(), Unfit>
+    ensures done { OnOk result (header.new ≡ header_after rec.now lsn header.old) }
+    ensures fault { HeaderFits rec.now header.old → IfErr result (λ e. e ≡ faults.NoMemory) }
+    ensures kept { Kept result header.old header.new }
+{
+    change(header, rec)?;
+    header.set_lsn(lsn);
+    Ok(())
+}

@@ -1,5 +1,8 @@
 -- The statuses of the program. This engine's own.
-use Rattle.std.specs.Prelude.{ℕ}
+use Rattle.std.specs.Prelude.{ℕ, List, ◌++◌, codes}
+use Rattle.std.specs.Fmt.{decimal}
+use Rattle.disk_model.specs.declared.disk.File.{File}
+use Rattle.disk_model.specs.declared.disk.File.TheVariants.{Data, Log}
 use Rattle.text_port.specs.declared.whole.ReadEnd.{ReadEnd}
 use Rattle.text_port.specs.declared.whole.ReadEnd.TheVariants as read
 use Rattle.assm.specs.declared.fault.RunFault.{RunFault}
@@ -7,6 +10,8 @@ use Rattle.assm.specs.declared.fault.RunFault.TheVariants as run
 use Rattle.assm.specs.declared.opening.OpenFault.{OpenFault}
 use Rattle.assm.specs.declared.opening.OpenFault.TheVariants as opening
 use Rattle.assm.specs.declared.script.ScriptFault.{ScriptFault}
+use Rattle.assm.specs.declared.script.Why.{Why}
+use Rattle.assm.specs.declared.script.Why.TheVariants.{NotAStatement}
 use Rattle.assm.specs.declared.script.ScriptFault.TheVariants as script
 use Rattle.assm.specs.declared.status.Status.{Status}
 use Rattle.assm.specs.declared.status.Status.TheVariants.{Done, BadWords, BadScript, DeviceFault, NoMemory, BadFile, NotFormatted, ReadFault, WriteFault, ScriptTooLong, AlreadyFormatted}
@@ -44,3 +49,28 @@ status_of_open opening.NotFormatted = NotFormatted
 status_of_open (opening.BadFile which offset seen) = BadFile which offset seen
 status_of_open opening.AlreadyFormatted = AlreadyFormatted
 status_of_open opening.NoMemory = NoMemory
+
+-- ---- how a status is printed: its name, then its fields, each after a space
+abbrev pub why_text : Why → List ℕ
+why_text NotAStatement = codes "NotAStatement"
+
+abbrev pub file_text : File → List ℕ
+file_text Data = codes "data"
+file_text Log = codes "log"
+
+abbrev pub status_text : Status → List ℕ
+status_text Done = codes "Done"
+status_text BadWords = codes "BadWords"
+status_text (BadScript line why) = codes "BadScript " ++ decimal line ++ codes " " ++ why_text why
+status_text DeviceFault = codes "DeviceFault"
+status_text NoMemory = codes "NoMemory"
+status_text (BadFile which offset seen) = codes "BadFile " ++ file_text which ++ codes " " ++ decimal offset ++ codes " " ++ decimal seen
+status_text NotFormatted = codes "NotFormatted"
+status_text ReadFault = codes "ReadFault"
+status_text WriteFault = codes "WriteFault"
+status_text ScriptTooLong = codes "ScriptTooLong"
+status_text AlreadyFormatted = codes "AlreadyFormatted"
+
+-- its line on standard error, without the line feed
+abbrev pub status_line : Status → List ℕ
+status_line status = codes "assm: " ++ status_text status

@@ -30,7 +30,7 @@ mod world;
 
 use disk_host::Host;
 use seg_base::Open;
-use status::Status;
+use status::{Status, StatusLine};
 use std::env::{self, Env};
 use std::fs::{Files, OpenOptions};
 use std::io::ErrorKind;
@@ -62,20 +62,33 @@ fn hold_place<R: Files>(rt: &R) -> Option<R::File> {
 
 fn main(rt: HostRuntime) -> ExitCode {
     let _held = [hold_place(&rt), hold_place(&rt), hold_place(&rt)];
+    let mut disk = Host::new(&rt, "assm.dat", "assm.log");
+    let mut source = Stdin::new(rt.stdin());
+    let mut sink = Stdout::new(rt.stdout());
     let status = match own_words(&rt) {
         Ok(words) => run_program(
             &rt,
             rt.alloc(),
             &words,
-            &mut Host::new(&rt, "assm.dat", "assm.log"),
-            &mut Stdin::new(rt.stdin()),
-            &mut Stdout::new(rt.stdout()),
+            &mut disk,
+            &mut source,
+            &mut sink,
             &Open,
         ),
         Err(status) => status,
     };
+    let cause = match status {
+        Status::DeviceFault => disk.cause(),
+        Status::ReadFault => source.cause(),
+        Status::WriteFault => sink.cause(),
+        _ => None,
+    };
     if status != Status::Done {
-        let _ = eprintln!(rt; "assm: {status}");
+        let line = StatusLine { status };
+        let _ = eprintln!(rt; "{line}");
+    }
+    if let Some(cause) = cause {
+        let _ = eprintln!(rt; "{cause}");
     }
     ExitCode::from(status.number())
 }

@@ -5,6 +5,7 @@ ghost use Rattle.assm.specs.declared.script.ScriptFault.TheVariants as bad;
 ghost use Rattle.assm.specs.Bytes.{lines};
 ghost use Rattle.assm.specs.Script.{table_of, is_text, insert_of, scan_of, statement_of, may_follow, script_of, label_of, is_text_byte, more};
 ghost use Rattle.assm.specs.Parsed.{Parsed};
+ghost use Rattle.assm.specs.Status.{why_text};
 ghost use Rattle.assm.specs.Runs.{AreStatements};
 ghost use Rattle.assm.specs.Spelled.{spelling, IsStatement};
 
@@ -22,6 +23,8 @@ pub enum Why {
 }
 
 impl std::fmt::Display for Why {
+    ghost output = { λ why. Some (why_text why) };
+
     fn fmt<W: std::fmt::Write>(&self, f: &mut std::fmt::Formatter<W>) -> std::fmt::Result {
         match self {
             Why::NotAStatement => write!(f, "NotAStatement"),

@@ -1,6 +1,6 @@
 // How the program ends.
-ghost use Rattle.std.specs.Prelude.{◌≡◌};
-ghost use Rattle.assm.specs.Status.{number_of, status_of_run, status_of_read, status_of_script, status_of_open};
+ghost use Rattle.std.specs.Prelude.{◌≡◌, Some};
+ghost use Rattle.assm.specs.Status.{number_of, status_of_run, status_of_read, status_of_script, status_of_open, file_text, status_text, status_line};
 
 use crate::fault::RunFault;
 use crate::opening::OpenFault;
@@ -9,7 +9,7 @@ use disk_model::File;
 use std::fmt;
 use text_port::ReadEnd;
 
-/// Shown as the variant's name, with its fields after spaces.
+/// Shown as the variant's name, with its fields after spaces: numbers in decimal, a file as `data` or `log`.
 #[derive(Clone, Copy, Debug, PartialEq, Eq)]
 pub enum Status {
     Done,
@@ -25,7 +25,9 @@ pub enum Status {
     AlreadyFormatted,
 }
 
-fn file_name(file: File) -> &'static str {
+fn file_name(file: File) -> &'static str
+    ensures { result.now ≡ file_text file }
+{
     match file {
         File::Data => "data",
         File::Log => "log",
@@ -33,6 +35,8 @@ fn file_name(file: File) -> &'static str {
 }
 
 impl fmt::Display for Status {
+    ghost output = { λ status. Some (status_text status) };
+
     fn fmt<W: fmt::Write>(&self, f: &mut fmt::Formatter<W>) -> fmt::Result {
         match self {
             Status::Done => write!(f, "Done"),
@@ -50,6 +54,21 @@ impl fmt::Display for Status {
             Status::ScriptTooLong => write!(f, "ScriptTooLong"),
             Status::AlreadyFormatted => write!(f, "AlreadyFormatted"),
         }
+    }
+}
+
+/// A status as the program prints it on standard error: its name behind the program's, with its fields after spaces.
+#[derive(Clone, Copy, Debug)]
+pub struct StatusLine {
+    pub status: Status,
+}
+
+impl fmt::Display for StatusLine {
+    ghost output = { λ line. Some (status_line line.status) };
+
+    fn fmt<W: fmt::Write>(&self, f: &mut fmt::Formatter<W>) -> fmt::Result {
+        let status = self.status;
+        write!(f, "assm: {status}")
     }
 }
 

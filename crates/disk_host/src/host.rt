@@ -3,110 +3,73 @@ ghost use Rattle.std.specs.Prelude.{◌≡◌, ◌+◌, ◌-◌, ◌^◌, ◌<�
 ghost use Rattle.seg_base.specs.Faults.{Rose, HasCause};
 ghost use Rattle.disk_host.specs.Host.{StartsAtZero};
 
+use crate::StoreFile;
+use crate::store_files::StoreFiles;
 use disk_model::{Disk, File};
+use io_cause::Cause;
 use seg_base::Failed;
-use std::fs::{Files, OpenFile, OpenOptions};
-use std::io::{Read, Seek, SeekFrom, Write};
+use std::fs::Files;
 
-/// Two named files. A missing one is made; each call on one that can't be opened fails, and counts as a fault.
+/// Two named files, for this process alone while it lasts.
+///
+/// The first call opens and locks those that are there, without waiting, and syncs them and their folder; a missing one
+/// has no bytes, and is made by the first call that writes it. Where one can't be opened or locked, and after a sync
+/// that failed, each call fails. Each failure counts as a fault, and the first one's cause is kept.
 pub struct Host<'a, R: Files> {
-    rt: &'a R,
-    data_file: Option<R::File>,
-    log_file: Option<R::File>,
+    files: StoreFiles<'a, R>,
     clock: u64,
     fault_count: u64,
+    first_cause: Option<Cause<'a>>,
     ghost in_time: { clock ≤ 2 ^ 64 - 1 },
 }
 
 impl<R: Files> Drop for Host<'_, R> {
     fn drop(self) {
         let Host {
-            rt: _,
-            data_file: _data,
-            log_file: _log,
+            files: _files,
             clock: _,
             fault_count: _,
+            first_cause: _,
         } = self;
     }
 }
 
-// The file, made where it is missing.
-fn open_or_make<R: Files>(rt: &R, name: &str) -> Option<R::File> {
-    let mut how = OpenOptions::new();
-    how.read(true).write(true).create(true);
-    how.open(rt, name).ok()
-}
-
-// Reads on until the buffer is full or the file ends.
-fn fill<F: Read>(file: &mut F, buf: &mut [u8]) -> Option<usize> {
-    let mut filled = 0;
-    while filled < buf.len() {
-        match file.read(&mut buf[filled..]) {
-            Ok(0) => break,
-            Ok(count) => filled += count,
-            Err(_) => return None,
-        }
-    }
-    Some(filled)
-}
-
-fn read_from<F: Read + Seek>(file: &mut Option<F>, offset: u64, buf: &mut [u8]) -> Option<usize> {
-    let file = file.as_mut()?;
-    file.seek(SeekFrom::Start(offset)).ok()?;
-    fill(file, buf)
-}
-
-fn length_of<F: OpenFile>(file: &Option<F>) -> Option<u64> {
-    let metadata = file.as_ref()?.metadata().ok()?;
-    Some(metadata.len())
-}
-
-// Without bytes it only makes the file as long as the offset, as a write past the end does.
-fn write_to<F: Write + Seek + OpenFile>(
-    file: &mut Option<F>,
-    offset: u64,
-    bytes: &[u8],
-) -> Option<()> {
-    if bytes.is_empty() {
-        if length_of(file)? < offset {
-            file.as_ref()?.set_len(offset).ok()?;
-        }
-        return Some(());
-    }
-    let file = file.as_mut()?;
-    file.seek(SeekFrom::Start(offset)).ok()?;
-    file.write_all(bytes).ok()
-}
-
-fn sync_all<F: OpenFile>(file: &Option<F>) -> Option<()> {
-    file.as_ref()?.sync_all().ok()
-}
-
-impl<'a, R: Files> Host<'a, R> {
-    pub fn new(rt: &'a R, data_name: &str, log_name: &str) -> Host<'a, R>
+impl<'a, R: Files> Host<'a, R>
+where
+    R::File: StoreFile,
+{
+    /// Calls no file yet.
+    pub fn new(rt: &'a R, data_name: &'a str, log_name: &'a str) -> Host<'a, R>
         ensures { StartsAtZero ⟦<Host<'a, R> as Disk>⟧.meaning result }
     {
         Host {
-            rt,
-            data_file: open_or_make(rt, data_name),
-            log_file: open_or_make(rt, log_name),
+            files: StoreFiles::new(rt, data_name, log_name),
             clock: 0,
             fault_count: 0,
+            first_cause: None,
         }
     }
 
+    /// Why the first call that failed did, where one has: its file, the call, and what the system said.
+    pub fn cause(&self) -> Option<Cause<'a>> {
+        self.first_cause
+    }
+
     // A call has returned.
-    fn count<T: Drop>(&mut self, answer: Option<T>) -> Result<T, Failed>
+    fn count<T: Drop>(&mut self, answer: Result<T, Cause<'a>>) -> Result<T, Failed>
         requires { self.old.clock < 2 ^ 64 - 1 }
         ensures time { self.new.clock ≡ self.old.clock + 1 }
         ensures cause { HasCause self.old.fault_count self.new.fault_count result }
     {
         match answer {
-            Some(value) => {
+            Ok(value) => {
                 self.clock += 1;
                 Ok(value)
             }
-            None => Err(self.fail()),
+            Err(cause) => {
+                self.first_cause = self.first_cause.or(Some(cause));
+                Err(self.fail())
+            }
         }
     }
 
@@ -122,7 +85,10 @@ impl<'a, R: Files> Host<'a, R> {
     }
 }
 
-impl<R: Files> Disk for Host<'_, R> {
+impl<R: Files> Disk for Host<'_, R>
+where
+    R::File: StoreFile,
+{
     ghost use Rattle.disk_host.specs.Host.{untold};
 
     ghost meaning = { untold (λ h. h.clock) (λ h. h.fault_count) };
@@ -137,10 +103,7 @@ impl<R: Files> Disk for Host<'_, R> {
         if self.clock == u64::MAX {
             return Err(self.fail());
         }
-        let count = match file {
-            File::Data => read_from(&mut self.data_file, offset, buf),
-            File::Log => read_from(&mut self.log_file, offset, buf),
-        };
+        let count = self.files.read(file, offset, buf);
         self.count(count)
     }
 
@@ -148,10 +111,7 @@ impl<R: Files> Disk for Host<'_, R> {
         if self.clock == u64::MAX || bytes.len() as u64 > u64::MAX - offset {
             return Err(self.fail());
         }
-        let done = match file {
-            File::Data => write_to(&mut self.data_file, offset, bytes),
-            File::Log => write_to(&mut self.log_file, offset, bytes),
-        };
+        let done = self.files.write_at(file, offset, bytes);
         self.count(done)
     }
 
@@ -159,10 +119,7 @@ impl<R: Files> Disk for Host<'_, R> {
         if self.clock == u64::MAX {
             return Err(self.fail());
         }
-        let len = match file {
-            File::Data => length_of(&self.data_file),
-            File::Log => length_of(&self.log_file),
-        };
+        let len = self.files.len(file);
         self.count(len)
     }
 
@@ -170,10 +127,7 @@ impl<R: Files> Disk for Host<'_, R> {
         if self.clock == u64::MAX {
             return Err(self.fail());
         }
-        let done = match file {
-            File::Data => sync_all(&self.data_file),
-            File::Log => sync_all(&self.log_file),
-        };
+        let done = self.files.sync(file);
         self.count(done)
     }
 

@@ -3,7 +3,13 @@
 #![tactic(auto)]
 
 mod host;
+mod named;
+mod opened;
+mod places;
+mod store_file;
+mod store_files;
 #[cfg(test)]
 mod tests;
 
 pub use host::Host;
+pub use store_file::StoreFile;

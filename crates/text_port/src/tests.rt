@@ -1,8 +1,11 @@
+// What no clause says: that calls succeed, and what the adapters of the real streams do.
+ghost use Rattle.std.specs.Prelude.{◌≡◌, IfOk};
+
 use crate::{
     MemorySink, MemorySource, Quiet, ReadEnd, Sink, Source, Stdin, Stdout, read_all, write_all,
 };
 use seg_base::Failed;
-use std::io::{self, Write};
+use std::io::{self, ErrorKind, Read, Write};
 use std::test::Fail;
 
 /// 5,000 bytes take more than one piece. The bound itself is allowed, and one byte more is not.
@@ -50,13 +53,33 @@ fn all_is_written_or_a_first_part(rt: HostRuntime) -> Result<(), Fail> {
     Ok(())
 }
 
-/// A writer that takes nothing.
+/// A reader and a writer whose calls are interrupted, each second one; the writer takes nothing.
 #[derive(Drop)]
-struct Full;
+struct Full {
+    interrupted: bool,
+}
+
+impl Full {
+    fn call(&mut self, count: usize) -> io::Result<usize>
+        ensures { IfOk result (λ n. n ≡ count) }
+    {
+        self.interrupted = !self.interrupted;
+        if self.interrupted {
+            return Err(io::Error::from(ErrorKind::Interrupted));
+        }
+        Ok(count)
+    }
+}
+
+impl Read for Full {
+    fn read(&mut self, _buf: &mut [u8]) -> io::Result<usize> {
+        self.call(0)
+    }
+}
 
 impl Write for Full {
     fn write(&mut self, _buf: &[u8]) -> io::Result<usize> {
-        Ok(0)
+        self.call(0)
     }
 
     fn flush(&mut self) -> io::Result<()> {
@@ -66,7 +89,7 @@ impl Write for Full {
 
 /// The real streams are behind these adapters. A reader in memory stands for standard input.
 #[test]
-fn adapters_pass_bytes_on_and_count_faults(rt: HostRuntime) {
+fn adapters_pass_bytes_on_and_count_faults(rt: HostRuntime) -> Result<(), Fail> {
     let mut source = Stdin::new(b"abc".as_slice());
     let mut piece = [0; 2];
     assert_eq!(rt; source.read(&mut piece), Ok(2));
@@ -76,8 +99,16 @@ fn adapters_pass_bytes_on_and_count_faults(rt: HostRuntime) {
     let mut sink = Stdout::new(rt.stdout());
     assert_eq!(rt; write_all(&mut sink, b"to standard output\n"), Ok(()));
     assert_eq!(rt; sink.faults(), 0);
-    let mut full = Stdout::new(Full);
+    let mut end = Stdin::new(Full { interrupted: false });
+    assert_eq!(rt; end.read(&mut piece), Ok(0));
+    assert!(rt; end.cause().is_none());
+    let mut full = Stdout::new(Full { interrupted: false });
     assert_eq!(rt; full.write(b""), Ok(0));
     assert_eq!(rt; full.write(b"x"), Err(Failed));
     assert_eq!(rt; full.faults(), 1);
+    if let Some(cause) = full.cause() {
+        let words = cause.to_string(rt.alloc())?;
+        assert_eq!(rt; words.as_str(), "standard output: write: no byte was taken");
+    }
+    Ok(())
 }

@@ -3,8 +3,8 @@ use Rattle.std.proofs.Common.{◌≡◌, ℕ, ◌+◌, ◌<◌, List, [], ◌∷
 use Rattle.std.proofs.lemmas.Grind.{flat_map-append}
 use Rattle.std.specs.Prelude.{is_some, Result, Err}
 use Rattle.std.proofs.lemmas.Bool.{true≢false}
-use Rattle.log_frame.specs.Frame.{frame, frames}
-use Rattle.log_frame.specs.Found.{IsFirst, AnswersInMemory}
+use Rattle.log_frame.specs.Frame.{frame, frames, group_found}
+use Rattle.log_frame.specs.Found.{IsFirst, IsGroupFound, AnswersInMemory}
 use Rattle.log_frame.specs.Spelling.{IsLog}
 use Rattle.log_frame.specs.Ready.{IsReady}
 use Rattle.log_frame.specs.declared.fault.FrameFault.{FrameFault}
@@ -12,7 +12,8 @@ use Rattle.log_frame.specs.declared.fault.FrameFault.TheVariants as refusal
 use Rattle.seg_base.specs.declared.shape.Shape.{Shape}
 use Rattle.disk_model.specs.Files.{Files}
 use Rattle.disk_model.specs.Crash.{Meaning, Untouched}
-use Rattle.assm.specs.Opens.{IsOutside, fault_of}
+use Rattle.recovery.specs.Store.{fault_of}
+use Rattle.assm.specs.Opens.{IsOutside}
 use Rattle.log_frame.specs.declared.log.Group.{Group}
 use Rattle.assm.specs.declared.record.Record.{Record}
 use Rattle.assm.specs.Lawful.{IsLawful}
@@ -104,3 +105,8 @@ outside_frame refusal.DeviceFault P h = tt
 outside_frame refusal.NotOpen P h = absurd h
 outside_frame (refusal.BadFrame offset seen) P h = absurd h
 outside_frame refusal.NoMemory P h = tt
+
+-- what reading at a gate says of the log as it was at first
+pub found_at : {D : Type 0} (meaning : Meaning D) (old now : D) (at : ℕ) (result : Result (Option Group) FrameFault) → Untouched meaning old now → meaning.told old → (meaning.told now → IsGroupFound (group_found (meaning.files now).log_bytes at) result) → IsGroupFound (group_found (meaning.files old).log_bytes at) result
+found_at meaning old now at result untouched told found =
+    subst (λ (f : Files). IsGroupFound (group_found f.log_bytes at) result) (untouched.files told) (found (untouched.told.1 told))

@@ -22,3 +22,4 @@ pub mod Opened
 pub mod WordsLemmas
 pub mod HeadLemmas
 pub mod Told
+mod Finding

@@ -7,23 +7,27 @@ use Rattle.disk_model.specs.Only.{IsSettled}
 use Rattle.disk_model.specs.declared.disk.File.TheVariants.{Log}
 use Rattle.log_frame.specs.Spelling.{IsLog}
 use Rattle.log_frame.specs.Ready.{IsReady}
-use Rattle.log_frame.specs.Found.{Answers}
-use Rattle.log_frame.specs.declared.fault.FrameFault.{FrameFault}
-use Rattle.log_frame.specs.declared.fault.FrameFault.TheVariants as refusal
+use Rattle.recovery.specs.Store.{Answers, IsStore}
+use Rattle.recovery.specs.declared.fault.OpenFault.{OpenFault}
+use Rattle.recovery.specs.declared.fault.OpenFault.TheVariants as opening
 use Rattle.assm.specs.declared.record.Record.{Record}
 use Rattle.assm.specs.declared.record.Record.TheVariants as made
 use Rattle.assm.specs.Redo.{prefix}
 use Rattle.assm.specs.Lawful.{IsLawful}
 use Rattle.assm.specs.Runs.{Grows}
 use Rattle.assm.specs.Survives.{Holds, has_blocks, IsSound, IsLive}
-use Rattle.assm.specs.Opens.{StartsSound, IsOutside, fault_of, TakenBack}
+use Rattle.assm.specs.Opens.{StartsSound, IsOutside, TakenBack}
 use Rattle.assm.proofs.Histories.{prefix_all, prefix_grown}
 
-pub outside_of : {A : Type 0} (fault : FrameFault) (P : A → Type 0) → Answers (Err fault) P → IsOutside (fault_of fault)
-outside_of refusal.DeviceFault P h = tt
-outside_of refusal.NotOpen P h = absurd h
-outside_of (refusal.BadFrame offset seen) P h = absurd h
-outside_of refusal.NoMemory P h = tt
+pub outside_of : {A : Type 0} (fault : OpenFault) (P : A → Type 0) → Answers (Err fault) P → IsOutside fault
+outside_of opening.DeviceFault P h = tt
+outside_of opening.NotFormatted P h = absurd h
+outside_of (opening.BadFile which offset seen) P h = absurd h
+outside_of opening.AlreadyFormatted P h = absurd h
+outside_of opening.NoMemory P h = absurd h
+
+pub is_store : (shape : Shape) (R : List Record) (files : Files) → (h : IsSound shape R files) → IsStore shape h.groups files
+is_store shape R files h = record { log = h.log; long = h.blocks }
 
 module _ {D : Type 0} (meaning : Meaning D) where
   log_settled : (disk : D) (shape : Shape) (R : List Record) → StartsSound meaning disk shape R → IsSettled meaning disk Log

@@ -33,11 +33,6 @@ none_read bytes r rest e fit read =
     let both : none ≡ Some (r, rest) = sym read ∙ ap record_in e ∙ record_again r rest fit in
     true≢false (sym (ap (λ (o : Read). is_some o) both))
 
-pub not_shorter : (bytes : List ℕ) (r made : Record) (rest left : List ℕ) → bytes ≡ spelled r ++ rest → IsFit r → record_in bytes ≡ Some (made, left) → length bytes ≤ length left → ⊥
-not_shorter bytes r made rest left e fit read le =
-    let k = read_is bytes r made rest left e fit read in
-    absurd (omega (arith, ap length k.1, ap length e, length-append (spelled r) rest, spelled_some r, le))
-
 pub replayed : (done : Bool) (bytes : List ℕ) (r made : Record) (rest left : List ℕ) (R R' : List Record) → bytes ≡ spelled r ++ rest → IsFit r → IsAllowed r R → record_in bytes ≡ Some (made, left) → Replays done made R R' → IsReplayed done r rest R R' left
 replayed true bytes r made rest left R R' e fit allowed read h =
     let k = read_is bytes r made rest left e fit read in

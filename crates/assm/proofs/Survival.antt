@@ -19,6 +19,7 @@ use Rattle.assm.specs.Redo.{prefix, commit_count}
 use Rattle.assm.specs.Lawful.{IsLawful}
 use Rattle.assm.specs.Legal.{AreInTime}
 use Rattle.assm.specs.Plain.{spelled_all, AreFit}
+use Rattle.recovery.specs.Store.{data_size}
 use Rattle.assm.specs.Survives.{Holds, has_blocks, IsSound, AreTold, commit_told, SurvivesIn, Survives, Lasts, IsStable, IsLive}
 use Rattle.assm.proofs.Histories.{prefix_all, prefix_grown}
 
@@ -152,7 +153,7 @@ module _ {D : Type 0} (meaning : Meaning D) (start : ℕ) (shape : Shape) (first
   -- a group with the newer records is written
   flush_image : (R : List Record) (T : List HistoryItem) (disk : D) (end stable m : ℕ) (payload : List ℕ) (newer : List Record) (image : Files) → (h : IsLive meaning start shape first disk end stable R T) → R ≡ newer ++ prefix stable R → payload ≡ spelled_all newer → AreFit newer → OnlyFile meaning disk Log (WithOrWithout shape h.log.groups payload) image → SurvivesIn shape first R T m image
   flush_image R T disk end stable m payload newer image h parts spells fit only =
-      let blocks : has_blocks shape image = subst (λ (z : List ℕ). 4096 * shape.blocks ≤ length z) (sym (ap (λ (f : Files). f.data_bytes) only.rest)) (h.blocks only.was only.before) in
+      let blocks : has_blocks shape image = subst (λ (z : List ℕ). data_size shape ≤ length z) (sym (ap (λ (f : Files). f.data_bytes) only.rest)) (h.blocks only.was only.before) in
       elim only.holds [
         | inl without ↦ record {
           count = stable;
@@ -191,7 +192,7 @@ module _ {D : Type 0} (meaning : Meaning D) (start : ℕ) (shape : Shape) (first
       ready = leads.ready;
       holds = subst (λ (z : List Record). Holds (h.log.groups ++ payload ∷ []) [] z) (sym parts ∙ sym (prefix_all R)) (holds_more h.log.groups payload [] (prefix stable R) newer h.log.holds spells fit);
     };
-    blocks = λ image is. let only = leads.images image is in subst (λ (z : List ℕ). 4096 * shape.blocks ≤ length z) (sym (ap (λ (f : Files). f.data_bytes) only.rest)) (h.blocks only.was only.before);
+    blocks = λ image is. let only = leads.images image is in subst (λ (z : List ℕ). data_size shape ≤ length z) (sym (ap (λ (f : Files). f.data_bytes) only.rest)) (h.blocks only.was only.before);
     told = λ moment. subst (λ (z : List Record). AreTold moment (commit_count z) T) (sym (prefix_all R)) (told_more moment _ _ T (prefix_commits stable R) (h.told moment));
     survives = survives_flush R T old new end stable payload newer h parts spells fit leaves;
     time = in_time_later (meaning.clock old) (meaning.clock new) T leaves.later h.time;

@@ -13,7 +13,7 @@ use Rattle.assm.specs.Lawful.{IsLawful}
 use Rattle.assm.specs.Legal.{IsLegal}
 use Rattle.assm.specs.Means.{Meets, MeetsEnd}
 use Rattle.assm.specs.Lines.{text_of, entry_text}
-use Rattle.assm.specs.Runs.{start_at, entry_at, Grows, Steps, AppendsNewest, CutsNewest, Stops, Stopped, NothingEnds, Finished}
+use Rattle.assm.specs.Runs.{start_at, entry_at, Grows, Steps, AppendsNewest, CutsNewest, Stops, Stopped, IsUncut, NothingEnds, Finished}
 use Rattle.assm.proofs.Histories.{Between, statement_between, end_between, started_legal, prefix_all, prefix_grown}
 use Rattle.assm.specs.declared.entry.Outcome.TheVariants as told
 use Rattle.assm.specs.declared.entry.HistoryItem.TheVariants as item
@@ -89,6 +89,11 @@ statement_stopped script R0 i clock n s a b c R R' T T' h took got number stops 
 pub end_stopped : (script : List Statement) (R0 : List Record) (clock : ℕ) (a b c : Option (List ℕ)) (R R' : List Record) (T T' : List HistoryItem) → Between script R0 (length script) R T → Appends a b (text_of T) → Stops b c R R' T T' (Steps None (λ o. MeetsEnd o R R') clock R R' T T') → Stopped a c script R0 R' T'
 end_stopped script R0 clock a b c R R' T T' h took stops =
     stopped_by script R0 (length script) clock a b c None (λ o. MeetsEnd o R R') R R' T T' h took (λ step. (end_between script R0 clock R R' T T' h step).legal) stops
+
+-- a step that wrote nothing leaves the text whole
+pub still_whole : (a b c : Option (List ℕ)) (T T' : List HistoryItem) → Appends a b (text_of T) → IsUncut b c T T' → Appends a c (text_of T')
+still_whole a b c T T' took h =
+    subst (λ (w : Option (List ℕ)). Appends a w (text_of T')) (sym h.written) (subst (λ (z : List ℕ). Appends a b z) (sym h.same) took)
 
 -- all of it ran, and then something failed
 pub finished_stopped : (script : List Statement) (R0 : List Record) (a c : Option (List ℕ)) (R : List Record) (T : List HistoryItem) → Finished a c script R0 R T → Stopped a c script R0 R T

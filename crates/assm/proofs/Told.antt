@@ -1,13 +1,13 @@
 -- What the top call tells.
-use Rattle.std.proofs.Common.{◌≡◌, ℕ, List, [], length, refl, ap, sym, ◌∙◌, inl, inr, subst, Option}
+use Rattle.std.proofs.Common.{◌≡◌, ℕ, List, [], length, refl, ap, sym, ◌∙◌, inl, inr, subst, Option, Err}
 use Rattle.seg_base.specs.declared.shape.Shape.{Shape}
 use Rattle.disk_model.specs.Files.{Files}
 use Rattle.disk_model.specs.Crash.{Meaning, Now, Untouched}
 use Rattle.log_frame.specs.Spelling.{IsLog}
 use Rattle.assm.specs.declared.record.Record.{Record}
 use Rattle.assm.specs.declared.entry.HistoryItem.{HistoryItem}
-use Rattle.assm.specs.declared.opening.OpenFault.{OpenFault}
-use Rattle.assm.specs.declared.opening.OpenFault.TheVariants as opening
+use Rattle.recovery.specs.declared.fault.OpenFault.{OpenFault}
+use Rattle.recovery.specs.declared.fault.OpenFault.TheVariants as opening
 use Rattle.assm.specs.declared.fault.RunFault.{RunFault}
 use Rattle.assm.specs.declared.fault.RunFault.TheVariants as run
 use Rattle.assm.specs.Redo.{prefix}
@@ -17,21 +17,24 @@ use Rattle.assm.specs.Status.{status_of_open, status_of_run}
 use Rattle.assm.specs.declared.status.Status.{Status}
 use Rattle.assm.specs.declared.status.Status.TheVariants as the
 use Rattle.assm.specs.declared.script.Why.{Why}
-use Rattle.assm.specs.Top.{RanPart, RunTells, ScriptTells, FormatTells, HadScript, IsRefused}
+use Rattle.std.specs.Io.KnownBytes.{Appends}
+use Rattle.assm.specs.Finds.{Finds}
+use Rattle.assm.specs.Lines.{text_of}
+use Rattle.assm.specs.Top.{RanPart, IsAccepted, RunTells, ScriptTells, FormatTells, HadScript, IsRefused}
 use Rattle.assm.proofs.Histories.{prefix_all}
 
 module _ {D : Type 0} (meaning : Meaning D) where
-  pub open_tells : (disk disk' : D) (old : Option (List ℕ)) (script : List ℕ) (fault : OpenFault) → Untouched meaning disk disk' → ((shape : Shape) (R : List Record) → StartsSound meaning disk shape R → IsOutside fault) → (fault ≡ opening.AlreadyFormatted → ⊥) → RunTells meaning disk disk' old old (status_of_open fault) script
-  open_tells disk disk' old script opening.DeviceFault untouched outside made = inl (record { printed = refl; untouched = untouched })
-  open_tells disk disk' old script opening.NotFormatted untouched outside made = (record { printed = refl; untouched = untouched }, outside)
-  open_tells disk disk' old script (opening.BadFile which offset seen) untouched outside made = (record { printed = refl; untouched = untouched }, outside)
-  open_tells disk disk' old script opening.AlreadyFormatted untouched outside made = absurd (made refl)
-  open_tells disk disk' old script opening.NoMemory untouched outside made = inl (record { printed = refl; untouched = untouched })
+  pub open_tells : {A : Type 0} (disk disk' : D) (old : Option (List ℕ)) (script : List ℕ) (P : A → Type 0) (fault : OpenFault) → IsAccepted script → Untouched meaning disk disk' → ((shape : Shape) (R : List Record) → StartsSound meaning disk shape R → IsOutside fault) → (meaning.told disk → Finds (meaning.files disk) P (Err fault)) → (fault ≡ opening.AlreadyFormatted → ⊥) → RunTells meaning disk disk' old old (status_of_open fault) script
+  open_tells disk disk' old script P opening.DeviceFault accepted untouched outside found made = inl (accepted, record { printed = refl; untouched = untouched })
+  open_tells disk disk' old script P opening.NotFormatted accepted untouched outside found made = (accepted, record { printed = refl; untouched = untouched }, outside)
+  open_tells disk disk' old script P (opening.BadFile which offset seen) accepted untouched outside found made = (accepted, record { printed = refl; untouched = untouched }, outside, found)
+  open_tells disk disk' old script P opening.AlreadyFormatted accepted untouched outside found made = absurd (made refl)
+  open_tells disk disk' old script P opening.NoMemory accepted untouched outside found made = inl (record { printed = refl; untouched = untouched })
 
-  pub part_tells : (disk disk' : D) (old new : Option (List ℕ)) (script : List ℕ) (fault : RunFault) → RanPart meaning disk disk' old new script → RunTells meaning disk disk' old new (status_of_run fault) script
-  part_tells disk disk' old new script run.NoMemory part = inr part
-  part_tells disk disk' old new script run.DeviceFault part = inr part
-  part_tells disk disk' old new script run.WriteFault part = part
+  pub part_tells : (disk disk' : D) (old new : Option (List ℕ)) (script : List ℕ) (fault : RunFault) → (part : RanPart meaning disk disk' old new script) → ((fault ≡ run.WriteFault → ⊥) → Appends old new (text_of part.history)) → RunTells meaning disk disk' old new (status_of_run fault) script
+  part_tells disk disk' old new script run.NoMemory part whole = inr (record { part = part; whole = whole (λ e. cc) })
+  part_tells disk disk' old new script run.DeviceFault part whole = inr (record { part = part; whole = whole (λ e. cc) })
+  part_tells disk disk' old new script run.WriteFault part whole = part
 
   -- where all records are stable, each image has them
   pub sound_now : (start : ℕ) (shape : Shape) (first : ℕ) (disk : D) (end stable : ℕ) (R : List Record) (T : List HistoryItem) → IsLive meaning start shape first disk end stable R T → stable ≡ length R → (image : Files) → Now meaning disk image → IsSound shape R image

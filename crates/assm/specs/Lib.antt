@@ -22,3 +22,4 @@ pub mod Worked
 pub mod Status
 pub mod Words
 pub mod Top
+pub mod Finds

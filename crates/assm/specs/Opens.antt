@@ -3,16 +3,11 @@ use Rattle.std.specs.Prelude.{◌≡◌, ◌⊎◌, false, List, [], Result, Ok,
 use Rattle.seg_base.specs.declared.shape.Shape.{Shape}
 use Rattle.disk_model.specs.Files.{Files}
 use Rattle.disk_model.specs.Crash.{Meaning, Now}
-use Rattle.disk_model.specs.declared.disk.File.TheVariants as file
 use Rattle.log_frame.specs.Head.{is_formatted}
-use Rattle.log_frame.specs.declared.fault.FrameFault.{FrameFault}
-use Rattle.log_frame.specs.declared.fault.FrameFault.TheVariants as frame
-use Rattle.recovery.specs.declared.fault.OpenFault.{OpenFault as MakeFault}
-use Rattle.recovery.specs.declared.fault.OpenFault.TheVariants as make
+use Rattle.recovery.specs.declared.fault.OpenFault.{OpenFault}
+use Rattle.recovery.specs.declared.fault.OpenFault.TheVariants.{DeviceFault, NotFormatted, BadFile, AlreadyFormatted, NoMemory}
 use Rattle.recovery.specs.Store.{AreZero}
 use Rattle.assm.specs.declared.record.Record.{Record}
-use Rattle.assm.specs.declared.opening.OpenFault.{OpenFault}
-use Rattle.assm.specs.declared.opening.OpenFault.TheVariants.{DeviceFault, NotFormatted, BadFile, AlreadyFormatted, NoMemory}
 use Rattle.assm.specs.Redo.{active_in}
 use Rattle.assm.specs.Means.{TakesBack}
 use Rattle.assm.specs.Survives.{IsSound}
@@ -22,12 +17,6 @@ pub record StartsSound {D : Type 0} (meaning : Meaning D) (disk : D) (shape : Sh
   pub told : meaning.told disk
   pub settled : (image : Files) → Now meaning disk image → image ≡ meaning.files disk
   pub sound : IsSound shape R (meaning.files disk)
-
-abbrev pub fault_of : FrameFault → OpenFault
-fault_of frame.DeviceFault = DeviceFault
-fault_of frame.NotOpen = NotFormatted
-fault_of (frame.BadFrame offset seen) = BadFile file.Log offset seen
-fault_of frame.NoMemory = NoMemory
 
 -- a fault that a sound store may meet
 abbrev pub IsOutside : OpenFault → Type 0
@@ -43,11 +32,6 @@ OpensTo P (Err fault) = IsOutside fault
 -- the active transaction of a log is taken back
 abbrev pub TakenBack : List Record → List Record → Type 0
 TakenBack R R' = ((active_in R ≡ None) × (R' ≡ R)) ⊎ TakesBack R R'
-
-abbrev pub IsBadOrMemory : OpenFault → Type 0
-IsBadOrMemory (BadFile which offset seen) = Unit {0}
-IsBadOrMemory NoMemory = Unit {0}
-IsBadOrMemory fault = ⊥
 
 -- The disk tells what it holds, a crash now would leave just that, and its log isn't formatted.
 pub record StartsBlank {D : Type 0} (meaning : Meaning D) (disk : D) : Type 0 where
@@ -68,14 +52,6 @@ BlankOrEmpty shape image = (is_formatted image.log_bytes ≡ false) ⊎ IsNew sh
 pub record IsMade {D : Type 0} (meaning : Meaning D) (disk : D) (shape : Shape) : Type 0 where
   pub told : meaning.told disk
   pub each : (image : Files) → Now meaning disk image → IsNew shape image
-
--- the same fault of making a store
-abbrev pub made_as : MakeFault → OpenFault
-made_as make.DeviceFault = DeviceFault
-made_as make.NotFormatted = NotFormatted
-made_as (make.BadFile which offset seen) = BadFile which offset seen
-made_as make.AlreadyFormatted = AlreadyFormatted
-made_as make.NoMemory = NoMemory
 
 -- a fault that making a store may meet
 abbrev pub IsFormatFault : OpenFault → Type 0

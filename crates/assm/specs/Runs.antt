@@ -60,6 +60,11 @@ pub record Stops (old new : Option (List ℕ)) (R R' : List Record) (T T' : List
   pub lawful : IsLawful R'
   pub where_it_stopped : ((T' ≡ T) × (new ≡ old)) ⊎ (((T' ≡ item.Start (start_at R) ∷ T) × (new ≡ old)) ⊎ (Step × CutsNewest old new T'))
 
+-- nothing was written, and no entry made
+pub record IsUncut (old new : Option (List ℕ)) (T T' : List HistoryItem) : Type 0 where
+  pub written : new ≡ old
+  pub same : text_of T' ≡ text_of T
+
 -- the session's end, where no transaction is active
 pub record NothingEnds (old new : Option (List ℕ)) (R R' : List Record) (T T' : List HistoryItem) : Type 0 where
   pub idle : active_in R ≡ None

@@ -7,8 +7,8 @@ use Rattle.text_port.specs.declared.whole.ReadEnd.{ReadEnd}
 use Rattle.text_port.specs.declared.whole.ReadEnd.TheVariants as read
 use Rattle.assm.specs.declared.fault.RunFault.{RunFault}
 use Rattle.assm.specs.declared.fault.RunFault.TheVariants as run
-use Rattle.assm.specs.declared.opening.OpenFault.{OpenFault}
-use Rattle.assm.specs.declared.opening.OpenFault.TheVariants as opening
+use Rattle.recovery.specs.declared.fault.OpenFault.{OpenFault}
+use Rattle.recovery.specs.declared.fault.OpenFault.TheVariants as opening
 use Rattle.assm.specs.declared.script.ScriptFault.{ScriptFault}
 use Rattle.assm.specs.declared.script.Why.{Why}
 use Rattle.assm.specs.declared.script.Why.TheVariants.{NotAStatement}

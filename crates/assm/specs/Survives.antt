@@ -1,11 +1,12 @@
 -- What survives a crash at each moment of a run. From: redo is on disk before a commit is acknowledged, Oracle Database
 -- Concepts.
-use Rattle.std.specs.Prelude.{◌≡◌, ℕ, ◌*◌, ◌≤◌, List, [], ◌∷◌, ◌++◌, length}
+use Rattle.std.specs.Prelude.{◌≡◌, ℕ, ◌≤◌, List, [], ◌∷◌, ◌++◌, length}
 use Rattle.seg_base.specs.declared.shape.Shape.{Shape}
 use Rattle.disk_model.specs.Files.{Files}
 use Rattle.disk_model.specs.Crash.{Meaning, Now}
 use Rattle.log_frame.specs.Spelling.{IsLog}
 use Rattle.log_frame.specs.Ready.{IsReady}
+use Rattle.recovery.specs.Store.{data_size}
 use Rattle.assm.specs.declared.record.Record.{Record}
 use Rattle.assm.specs.declared.entry.Outcome.{Outcome}
 use Rattle.assm.specs.declared.entry.Outcome.TheVariants.{Committed}
@@ -22,7 +23,7 @@ Holds [] R0 R = R ≡ R0
 Holds (payload ∷ groups) R0 R = (newer : List Record) × (payload ≡ spelled_all newer) × AreFit newer × Holds groups (newer ++ R0) R
 
 abbrev pub has_blocks : Shape → Files → Type 0
-has_blocks shape files = 4096 * shape.blocks ≤ length files.data_bytes
+has_blocks shape files = data_size shape ≤ length files.data_bytes
 
 -- A sound store of this stage: its log is a log, whose records are R and lawful, and the data file has its blocks.
 pub record IsSound (shape : Shape) (R : List Record) (files : Files) : Type 0 where

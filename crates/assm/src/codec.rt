@@ -1,5 +1,5 @@
 // The bytes of plain records.
-ghost use Rattle.std.specs.Prelude.{◌≡◌, ◌^◌, ◌<◌, ◌≤◌, ◌++◌, ◌∷◌, [], length, true, reverse, IfOk, OnOk};
+ghost use Rattle.std.specs.Prelude.{◌≡◌, ◌^◌, ◌<◌, ◌≤◌, ◌++◌, ◌∷◌, [], length, true, reverse, IfOk, OnOk, OnSome};
 ghost use Rattle.std.specs.Int.{w16, w64, to_be_bytes};
 ghost use Rattle.seg_base.specs.Words.{is_name};
 ghost use Rattle.assm.specs.Plain.{spelled, spelled_all, IsFit, AreFit, table_in, begin_in, insert_in, commit_in, ended_in, record_in, HasShortRow, HaveShortRows, Reads, found};
@@ -94,7 +94,8 @@ fn put_record(out: &mut Vec<u8>, made: &Record) -> Result<(), NoMemory>
 
 #[tactic(auto, unfolding(crate::specs::Plain::table_in))]
 fn read_table(alloc: Global, input: &mut Input) -> Result<Option<Record>, NoMemory>
-    ensures { Reads result input.new (table_in input.old) }
+    ensures value { Reads result input.new (table_in input.old) }
+    ensures shorter { length input.new ≤ length input.old }
 {
     let Some(obj) = input.byte() else {
         return Ok(None);
@@ -120,7 +121,8 @@ fn read_table(alloc: Global, input: &mut Input) -> Result<Option<Record>, NoMemo
 
 #[tactic(auto, unfolding(crate::specs::Plain::begin_in))]
 fn read_begin(input: &mut Input) -> Option<Record>
-    ensures { Reads (found result) input.new (begin_in input.old) }
+    ensures value { Reads (found result) input.new (begin_in input.old) }
+    ensures shorter { length input.new ≤ length input.old }
 {
     let txn = TxnId(input.u64()?);
     Some(Record::Begin { txn })
@@ -128,7 +130,8 @@ fn read_begin(input: &mut Input) -> Option<Record>
 
 #[tactic(auto, unfolding(crate::specs::Plain::insert_in))]
 fn read_insert(alloc: Global, input: &mut Input) -> Result<Option<Record>, NoMemory>
-    ensures { Reads result input.new (insert_in input.old) }
+    ensures value { Reads result input.new (insert_in input.old) }
+    ensures shorter { length input.new ≤ length input.old }
 {
     let Some(txn) = input.u64() else {
         return Ok(None);
@@ -155,7 +158,8 @@ fn read_insert(alloc: Global, input: &mut Input) -> Result<Option<Record>, NoMem
 
 #[tactic(auto, unfolding(crate::specs::Plain::commit_in))]
 fn read_commit(input: &mut Input) -> Option<Record>
-    ensures { Reads (found result) input.new (commit_in input.old) }
+    ensures value { Reads (found result) input.new (commit_in input.old) }
+    ensures shorter { length input.new ≤ length input.old }
 {
     let txn = TxnId(input.u64()?);
     let number = Scn(input.u64()?);
@@ -164,7 +168,8 @@ fn read_commit(input: &mut Input) -> Option<Record>
 
 #[tactic(auto, unfolding(crate::specs::Plain::ended_in))]
 fn read_ended(input: &mut Input) -> Option<Record>
-    ensures { Reads (found result) input.new (ended_in input.old) }
+    ensures value { Reads (found result) input.new (ended_in input.old) }
+    ensures shorter { length input.new ≤ length input.old }
 {
     let txn = TxnId(input.u64()?);
     Some(Record::Ended { txn })
@@ -173,7 +178,8 @@ fn read_ended(input: &mut Input) -> Option<Record>
 /// The record at the front of the bytes. At None no record stands there.
 #[tactic(auto, unfolding(crate::specs::Plain::record_in))]
 pub fn read_record(alloc: Global, input: &mut Input) -> Result<Option<Record>, NoMemory>
-    ensures { Reads result input.new (record_in input.old) }
+    ensures value { Reads result input.new (record_in input.old) }
+    ensures shorter { IfOk result (λ read. OnSome read (length input.new < length input.old)) }
 {
     match input.byte() {
         Some(1) => read_table(alloc, input),

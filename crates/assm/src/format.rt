@@ -3,26 +3,11 @@ ghost use Rattle.std.specs.Prelude.{◌≡◌, false, true, IfErr, IsErrOf, OnOk
 ghost use Rattle.seg_base.specs.Places.{is_shape};
 ghost use Rattle.disk_model.specs.Crash.{Causes, Leaves, Untouched};
 ghost use Rattle.log_frame.specs.Head.{is_formatted};
-ghost use Rattle.assm.specs.Opens.{StartsBlank, BlankOrEmpty, IsMade, IsFormatFault, made_as};
+ghost use Rattle.assm.specs.Opens.{StartsBlank, BlankOrEmpty, IsMade, IsFormatFault};
 
-use crate::opening::OpenFault;
 use disk_model::Disk;
+use recovery::OpenFault;
 use seg_base::Shape;
-
-/// The same fault of making a store.
-fn made_as(fault: recovery::OpenFault) -> OpenFault
-    ensures { result ≡ made_as fault }
-{
-    match fault {
-        recovery::OpenFault::DeviceFault => OpenFault::DeviceFault,
-        recovery::OpenFault::NotFormatted => OpenFault::NotFormatted,
-        recovery::OpenFault::BadFile { file, offset, seen } => {
-            OpenFault::BadFile { file, offset, seen }
-        }
-        recovery::OpenFault::AlreadyFormatted => OpenFault::AlreadyFormatted,
-        recovery::OpenFault::NoMemory => OpenFault::NoMemory,
-    }
-}
 
 /// Makes the empty store of that shape, on a log that isn't formatted. At any moment of the call a crash leaves a log that
 /// isn't formatted, or the whole store.
@@ -39,6 +24,6 @@ pub fn format<D: Disk>(disk: &mut D, shape: &Shape) -> Result<(), OpenFault>
 {
     match recovery::format(disk, *shape) {
         Ok(()) => Ok(()),
-        Err(fault) => Err(made_as(fault)),
+        Err(fault) => Err(fault),
     }
 }

@@ -1,5 +1,5 @@
 // Bytes that are read from left to right.
-ghost use Rattle.std.specs.Prelude.{◌≡◌, Some, None, length, MatchOption};
+ghost use Rattle.std.specs.Prelude.{◌≡◌, ◌<◌, ◌≤◌, Some, None, length, MatchOption, OnSome};
 ghost use Rattle.std.specs.Int.{w16, w64};
 ghost use Rattle.assm.specs.Plain.{byte, number, text};
 
@@ -33,7 +33,9 @@ impl<'a> Input<'a> {
     }
 
     pub fn byte(&mut self) -> Option<u8>
-        ensures { MatchOption result (byte self.old ≡ None) (λ b. byte self.old ≡ Some (b, self.new)) }
+        ensures value { MatchOption result (byte self.old ≡ None) (λ b. byte self.old ≡ Some (b, self.new)) }
+        ensures shorter { OnSome result (length self.new < length self.old) }
+        ensures within { length self.new ≤ length self.old }
     {
         match self.rest {
             [] => None,
@@ -45,7 +47,8 @@ impl<'a> Input<'a> {
     }
 
     pub fn u16(&mut self) -> Option<u16>
-        ensures { MatchOption result (number w16 self.old ≡ None) (λ n. number w16 self.old ≡ Some (n, self.new)) }
+        ensures value { MatchOption result (number w16 self.old ≡ None) (λ n. number w16 self.old ≡ Some (n, self.new)) }
+        ensures shorter { length self.new ≤ length self.old }
     {
         if self.rest.len() < 2 {
             return None;
@@ -56,7 +59,8 @@ impl<'a> Input<'a> {
     }
 
     pub fn u64(&mut self) -> Option<u64>
-        ensures { MatchOption result (number w64 self.old ≡ None) (λ n. number w64 self.old ≡ Some (n, self.new)) }
+        ensures value { MatchOption result (number w64 self.old ≡ None) (λ n. number w64 self.old ≡ Some (n, self.new)) }
+        ensures shorter { length self.new ≤ length self.old }
     {
         if self.rest.len() < 8 {
             return None;
@@ -70,7 +74,8 @@ impl<'a> Input<'a> {
 
     /// So many bytes.
     pub fn take(&mut self, len: usize) -> Option<&'a [u8]>
-        ensures { MatchOption result (text len self.old ≡ None) (λ b. text len self.old ≡ Some (b.now, self.new)) }
+        ensures value { MatchOption result (text len self.old ≡ None) (λ b. text len self.old ≡ Some (b.now, self.new)) }
+        ensures shorter { length self.new ≤ length self.old }
     {
         if self.rest.len() < len {
             return None;

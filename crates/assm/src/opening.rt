@@ -1,92 +1,40 @@
 // Opening a store: its log is read, and what is active is taken back.
-ghost use Rattle.std.specs.Prelude.{◌≡◌, ◌<◌, ◌^◌, ◌≤◌, ℕ, List, [], false, length, OnOk, IfOk, IfErr, IsErrOf};
+ghost use Rattle.std.specs.Prelude.{◌≡◌, ◌-◌, ◌<◌, ◌≤◌, ℕ, List, [], true, length, slice_index, OnOk, IfOk, IfErr, IsErrOf};
 ghost use Rattle.seg_base.specs.declared.shape.Shape.{Shape as TheShape};
 ghost use Rattle.disk_model.specs.Crash.{Causes, Untouched};
+ghost use Rattle.disk_model.specs.declared.disk.File.TheVariants.{Log};
 ghost use Rattle.log_frame.specs.Head.{is_formatted};
 ghost use Rattle.log_frame.specs.Ready.{IsReady};
 ghost use Rattle.assm.specs.declared.record.Record.{Record};
-ghost use Rattle.assm.specs.Opens.{StartsSound, fault_of, OpensTo, TakenBack, IsBadOrMemory};
-ghost use Rattle.assm.specs.Heads.{TellsHead};
+ghost use Rattle.assm.specs.Opens.{StartsSound, OpensTo, TakenBack};
+ghost use Rattle.assm.specs.Finds.{Finds, HasRecords, OpensWith};
 ghost use Rattle.assm.specs.Lawful.{IsLawful};
 ghost use Rattle.assm.specs.Live.{Live};
-ghost use Rattle.assm.specs.Survives.{Holds, has_blocks};
+ghost use Rattle.assm.specs.Survives.{Holds};
 
 use crate::replay::{GroupFault, replay_group};
 use crate::store::PlainStore;
 use crate::world::World;
 use disk_model::{Disk, File};
-use log_frame::{FrameFault, LogFile, read_shape};
-use seg_base::{Newest, Shape};
+use log_frame::LogFile;
+use recovery::{OpenFault, open_log, read_head};
+use seg_base::Newest;
 use std::alloc::Global;
-use thiserror::Error;
-
-/// Why a store isn't opened or made.
-#[derive(Clone, Copy, Debug, PartialEq, Eq, Error)]
-pub enum OpenFault {
-    #[error("the disk has failed")]
-    DeviceFault,
-    #[error("the log isn't formatted")]
-    NotFormatted,
-    #[error("no spelling of a store: byte {offset} is {seen}")]
-    BadFile { file: File, offset: u64, seen: u8 },
-    #[error("the log is formatted already")]
-    AlreadyFormatted,
-    #[error("no memory")]
-    NoMemory,
-}
-
-impl From<FrameFault> for OpenFault {
-    ghost from_gives = { λ frame fault. fault ≡ fault_of frame };
-
-    fn from(fault: FrameFault) -> OpenFault {
-        match fault {
-            FrameFault::DeviceFault => OpenFault::DeviceFault,
-            FrameFault::NotOpen => OpenFault::NotFormatted,
-            FrameFault::BadFrame { offset, seen } => OpenFault::BadFile {
-                file: File::Log,
-                offset,
-                seen,
-            },
-            FrameFault::NoMemory => OpenFault::NoMemory,
-        }
-    }
-}
 
 /// The place of the first group's gate.
 const FIRST_GATE: u64 = 63;
 
-/// Tests that the data file has its blocks.
-#[tactic(auto, using(disk_model::proofs::Going::untouched_call))]
-fn check_data<D: Disk>(disk: &mut D, shape: &Shape) -> Result<(), OpenFault>
-    requires { shape.now.blocks < 2 ^ 32 }
-    ensures sound { D.meaning.told disk.old → has_blocks shape.now (D.meaning.files disk.old) → OpensTo (λ _. has_blocks shape.now (D.meaning.files disk.old)) result }
-    ensures cause { Causes D.meaning disk.old disk.new (IsErrOf result OpenFault.DeviceFault) }
-    ensures untouched { Untouched D.meaning disk.old disk.new }
-    ensures formatted { IsErrOf result OpenFault.NotFormatted → ⊥ }
-    ensures made { IsErrOf result OpenFault.AlreadyFormatted → ⊥ }
-{
-    let Ok(len) = disk.len(File::Data) else {
-        return Err(OpenFault::DeviceFault);
-    };
-    if len < 4096 * shape.blocks as u64 {
-        return Err(OpenFault::BadFile {
-            file: File::Data,
-            offset: len,
-            seen: 0,
-        });
-    }
-    Ok(())
-}
-
-/// What is wrong with a group that stands behind the gate at that place.
-fn bad_group(payload: &[u8], at: u64, fault: GroupFault) -> OpenFault
+/// What is wrong with a group, whose payload ends before the next gate.
+fn bad_group(payload: &[u8], next: u64, fault: GroupFault) -> OpenFault
+    requires { length payload.now ≤ next }
     ensures outside { fault ≡ GroupFault.NoMemory → result ≡ OpenFault.NoMemory }
-    ensures bad { IsBadOrMemory result }
+    ensures bad { (place : ℕ) → fault ≡ GroupFault.NoRecord place → place < length payload.now → result ≡ OpenFault.BadFile Log (next - (length payload.now - place)) (slice_index payload.now place) }
+    ensures only { (result ≡ OpenFault.DeviceFault → ⊥) × (result ≡ OpenFault.AlreadyFormatted → ⊥) }
 {
     match fault {
         GroupFault::NoRecord { at: place } => OpenFault::BadFile {
             file: File::Log,
-            offset: at.saturating_add(5).saturating_add(place as u64),
+            offset: next - payload.len().saturating_sub(place) as u64,
             seen: payload.get(place).copied().unwrap_or(0),
         },
         GroupFault::NoMemory => OpenFault::NoMemory,
@@ -100,9 +48,9 @@ fn read_records<D: Disk>(
     log: &LogFile,
 ) -> Result<PlainStore, OpenFault>
     ensures all { (shape : TheShape) (groups : List (List ℕ)) (R : List Record) → IsReady D.meaning disk.old shape groups log.now → Holds groups [] R → IsLawful R → OpensTo (λ store. store ≡ R) result }
+    ensures found { D.meaning.told disk.old → is_formatted (D.meaning.files disk.old).log_bytes ≡ true → Finds (D.meaning.files disk.old) (λ store. HasRecords (D.meaning.files disk.old).log_bytes store) result }
     ensures cause { Causes D.meaning disk.old disk.new (IsErrOf result OpenFault.DeviceFault) }
     ensures untouched { Untouched D.meaning disk.old disk.new }
-    ensures formatted { IsErrOf result OpenFault.NotFormatted → D.meaning.told disk.old → is_formatted (D.meaning.files disk.old).log_bytes ≡ false }
     ensures made { IsErrOf result OpenFault.AlreadyFormatted → ⊥ }
 {
     let mut store = PlainStore::new(alloc);
@@ -113,17 +61,9 @@ fn read_records<D: Disk>(
             Ok(None) => return Ok(store),
             Err(fault) => return Err(OpenFault::from(fault)),
         };
-        // log_frame never gives it: the next gate stands after this one
-        if group.next <= at {
-            return Err(OpenFault::BadFile {
-                file: File::Log,
-                offset: at,
-                seen: 1,
-            });
-        }
         match replay_group(alloc, &mut store, group.payload.as_slice()) {
             Ok(()) => at = group.next,
-            Err(fault) => return Err(bad_group(group.payload.as_slice(), at, fault)),
+            Err(fault) => return Err(bad_group(group.payload.as_slice(), group.next, fault)),
         }
     }
 }
@@ -143,30 +83,26 @@ fn end_active(store: &mut PlainStore) -> Result<(), OpenFault>
     }
 }
 
-/// Opens the store. `NotFormatted` comes only where the log has fewer than 64 bytes or its first byte isn't 1, and a sound
-/// store is never refused. No call here changes the disk.
+/// Opens the store: the log's head, the data file's length, the log's frames, its records. What it answers is told by the
+/// bytes, a `BadFile` with the first wrong one. A sound store is never refused. No call here changes the disk.
 pub fn open<D: Disk>(alloc: Global, disk: &mut D) -> Result<World, OpenFault>
     ensures opened { (shape : TheShape) (R : List Record) → StartsSound D.meaning disk.old shape R
         → OpensTo (λ world. Live D.meaning (D.meaning.clock disk.old) shape (length R) disk.new world × TakenBack R world.store) result }
+    ensures found { D.meaning.told disk.old → Finds (D.meaning.files disk.old) (λ world. OpensWith (D.meaning.files disk.old) world.store) result }
     ensures lawful { IfOk result (λ world. IsLawful world.store) }
     ensures history { IfOk result (λ world. world.history ≡ []) }
     ensures within { IfOk result (λ world. world.stable ≤ length world.store) }
     ensures cause { Causes D.meaning disk.old disk.new (IsErrOf result OpenFault.DeviceFault) }
     ensures untouched { Untouched D.meaning disk.old disk.new }
-    ensures head { D.meaning.told disk.old → TellsHead (is_formatted (D.meaning.files disk.old).log_bytes) result }
     ensures made { IsErrOf result OpenFault.AlreadyFormatted → ⊥ }
 {
-    let shape = match read_shape(disk) {
-        Ok(shape) => shape,
-        Err(fault) => return Err(OpenFault::from(fault)),
-    };
-    match check_data(disk, &shape) {
-        Ok(()) => {}
+    match read_head(disk) {
+        Ok(_) => {}
         Err(fault) => return Err(fault),
     }
-    let log = match log_frame::open(disk, FIRST_GATE) {
+    let log = match open_log(disk, FIRST_GATE) {
         Ok(log) => log,
-        Err(fault) => return Err(OpenFault::from(fault)),
+        Err(fault) => return Err(fault),
     };
     let mut store = match read_records(alloc, disk, &log) {
         Ok(store) => store,

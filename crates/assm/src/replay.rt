@@ -1,10 +1,11 @@
 // Records that were read, put in where they may stand.
-ghost use Rattle.std.specs.Prelude.{◌≡◌, ◌<◌, ◌^◌, ◌++◌, ℕ, List, true, length, IfOk, MatchResult};
+ghost use Rattle.std.specs.Prelude.{◌≡◌, ◌<◌, ◌^◌, ◌++◌, ℕ, List, [], true, length, IfOk, IsErrOf, MatchResult, OnOk};
 ghost use Rattle.assm.specs.declared.record.Record.{Record};
 ghost use Rattle.assm.specs.Redo.{active_in};
 ghost use Rattle.assm.specs.Lawful.{IsAllowed, IsLawful, Replays, is_active};
 ghost use Rattle.assm.specs.Plain.{spelled, spelled_all, IsFit, AreFit};
 ghost use Rattle.assm.specs.Replaying.{IsReplayed};
+ghost use Rattle.assm.specs.Finds.{IsOneRead, IsRead, IsBadGroup};
 
 use crate::codec::read_record;
 use crate::input::Input;
@@ -136,25 +137,24 @@ fn replay(alloc: Global, store: &mut PlainStore, made: Record) -> Result<bool, N
 
 /// Reads the record at the front of the bytes, and adds it where it may stand. False where none stands there, or where it
 /// may not.
-#[tactic(auto, using(crate::proofs::Replayed::replayed, crate::proofs::Replayed::none_read, crate::proofs::Replayed::not_shorter))]
+#[tactic(auto, using(crate::proofs::Replayed::replayed, crate::proofs::Replayed::none_read, crate::proofs::Finding::one_read, crate::proofs::Finding::none_found))]
 fn replay_one(alloc: Global, store: &mut PlainStore, input: &mut Input) -> Result<bool, NoMemory>
     ensures one { (r : Record) (rest : List ℕ) → input.old ≡ spelled r ++ rest → IsFit r → IsAllowed r store.old → IfOk result (λ done. IsReplayed done r rest store.old store.new input.new) }
+    ensures read { IfOk result (λ done. IsOneRead done input.old store.old input.new store.new) }
     ensures shorter { IfOk result (λ done. done ≡ true → length input.new < length input.old) }
 {
-    let before = input.len();
-    let Some(made) = read_record(alloc, input)? else {
-        return Ok(false);
-    };
-    if input.len() >= before {
-        return Ok(false);
+    match read_record(alloc, input)? {
+        Some(made) => replay(alloc, store, made),
+        None => Ok(false),
     }
-    replay(alloc, store, made)
 }
 
 /// Adds the records that a group holds. The first byte of a record that isn't one, or that may not stand there, is told by
 /// its place in the group.
 pub fn replay_group(alloc: Global, store: &mut PlainStore, payload: &[u8]) -> Result<(), GroupFault>
-    ensures { (newer : List Record) → payload.now ≡ spelled_all newer → AreFit newer → IsLawful (newer ++ store.old) → MatchResult result (λ _. store.new ≡ newer ++ store.old) (λ fault. fault ≡ GroupFault.NoMemory) }
+    ensures sound { (newer : List Record) → payload.now ≡ spelled_all newer → AreFit newer → IsLawful (newer ++ store.old) → MatchResult result (λ _. store.new ≡ newer ++ store.old) (λ fault. fault ≡ GroupFault.NoMemory) }
+    ensures read { OnOk result (IsRead payload.now store.old store.new []) }
+    ensures none { (at : ℕ) → IsErrOf result (GroupFault.NoRecord at) → IsBadGroup payload.now store.old at }
 {
     let mut input = Input::new(payload);
     while input.len() > 0 {

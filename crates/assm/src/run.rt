@@ -1,9 +1,11 @@
 // The run of a whole script.
-ghost use Rattle.std.specs.Prelude.{◌≡◌, ◌<◌, ◌≤◌, ◌^◌, ℕ, [], length, OnOk, OnErr, IsErrOf};
+ghost use Rattle.std.specs.Prelude.{◌≡◌, ◌<◌, ◌≤◌, ◌^◌, ℕ, [], length, OnOk, OnErr, IfErr, IsErrOf};
+ghost use Rattle.std.specs.Io.KnownBytes.{Appends};
 ghost use Rattle.seg_base.specs.declared.shape.Shape.{Shape};
 ghost use Rattle.seg_base.specs.Faults.{Rose};
 ghost use Rattle.disk_model.specs.Crash.{Causes};
 ghost use Rattle.assm.specs.Lawful.{IsLawful};
+ghost use Rattle.assm.specs.Lines.{text_of};
 ghost use Rattle.assm.specs.Live.{Live, Lasting};
 ghost use Rattle.assm.specs.Runs.{AreStatements, Finished, Stopped};
 
@@ -29,6 +31,7 @@ fn run_statements<D: Disk, K: Sink>(
     requires within { world.old.stable ≤ length world.old.store }
     ensures within { world.new.stable ≤ length world.new.store }
     ensures stopped { OnErr result (Stopped (K.written sink.old) (K.written sink.new) script.now world.old.store world.new.store world.new.history) }
+    ensures uncut { IfErr result (λ fault. (fault ≡ RunFault.WriteFault → ⊥) → Appends (K.written sink.old) (K.written sink.new) (text_of world.new.history)) }
     ensures finished { OnOk result (Finished (K.written sink.old) (K.written sink.new) script.now world.old.store world.new.store world.new.history) }
     ensures live { (start : ℕ) (shape : Shape) (first : ℕ) → Live D.meaning start shape first disk.old world.old → OnOk result (Live D.meaning start shape first disk.new world.new) }
     ensures lasts { (start : ℕ) (shape : Shape) (first : ℕ) → Live D.meaning start shape first disk.old world.old → OnErr result (Lasting D.meaning start shape first disk.new world.new) }
@@ -63,6 +66,7 @@ pub fn run<D: Disk, K: Sink>(
     requires history { world.old.history ≡ [] }
     requires within { world.old.stable ≤ length world.old.store }
     ensures stopped { OnErr result (Stopped (K.written sink.old) (K.written sink.new) script.now world.old.store world.new.store world.new.history) }
+    ensures uncut { IfErr result (λ fault. (fault ≡ RunFault.WriteFault → ⊥) → Appends (K.written sink.old) (K.written sink.new) (text_of world.new.history)) }
     ensures finished { OnOk result (Finished (K.written sink.old) (K.written sink.new) script.now world.old.store world.new.store world.new.history) }
     ensures stable { OnOk result (world.new.stable ≡ length world.new.store) }
     ensures live { (start : ℕ) (shape : Shape) (first : ℕ) → Live D.meaning start shape first disk.old world.old → OnOk result (Live D.meaning start shape first disk.new world.new) }

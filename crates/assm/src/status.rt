@@ -3,9 +3,9 @@ ghost use Rattle.std.specs.Prelude.{◌≡◌, Some};
 ghost use Rattle.assm.specs.Status.{number_of, status_of_run, status_of_read, status_of_script, status_of_open, file_text, status_text, status_line};
 
 use crate::fault::RunFault;
-use crate::opening::OpenFault;
 use crate::script::{ScriptFault, Why};
 use disk_model::File;
+use recovery::OpenFault;
 use std::fmt;
 use text_port::ReadEnd;
 

@@ -142,6 +142,7 @@ pub fn script_command<R: Threads + Sync, D: Disk, S: Source, K: Sink>(
     ensures write_fault { result ≡ Status.WriteFault → Rose (K.fault_count sink.old) (K.fault_count sink.new) }
     ensures script_too_long { result ≡ Status.ScriptTooLong → WasLonger (S.left source.old) (2 ^ 24) }
     ensures refused { result ≡ Status.BadWords → (disk.new ≡ disk.old) × (K.written sink.new ≡ K.written sink.old) }
+    ensures unread { (command_in (map string_bytes words.now) ≡ Some asked.Run → ⊥) → source.new ≡ source.old }
     ensures run { command_in (map string_bytes words.now) ≡ Some asked.Run → ScriptTells D.meaning disk.old disk.new (K.written sink.old) (K.written sink.new) (S.left source.old) result }
     ensures format { (shape : TheShape) → command_in (map string_bytes words.now) ≡ Some (asked.Format shape) → FormatTells D.meaning disk.old disk.new (K.written sink.old) (K.written sink.new) shape result }
     ensures head_of_run { command_in (map string_bytes words.now) ≡ Some asked.Run → D.meaning.told disk.old → HeadOfRun (is_formatted (D.meaning.files disk.old).log_bytes) result }
@@ -172,6 +173,7 @@ pub fn run_program<R: Threads + Wait + Sync, D: Disk + Send, S: Source, K: Sink 
     ensures write_fault { result ≡ Status.WriteFault → Rose (K.fault_count sink.old) (K.fault_count sink.new) }
     ensures script_too_long { result ≡ Status.ScriptTooLong → WasLonger (S.left source.old) (2 ^ 24) }
     ensures refused { result ≡ Status.BadWords → (disk.new ≡ disk.old) × (K.written sink.new ≡ K.written sink.old) }
+    ensures unread { (command_in (map string_bytes words.now) ≡ Some asked.Run → ⊥) → source.new ≡ source.old }
     ensures run { command_in (map string_bytes words.now) ≡ Some asked.Run → ScriptTells D.meaning disk.old disk.new (K.written sink.old) (K.written sink.new) (S.left source.old) result }
     ensures format { (shape : TheShape) → command_in (map string_bytes words.now) ≡ Some (asked.Format shape) → FormatTells D.meaning disk.old disk.new (K.written sink.old) (K.written sink.new) shape result }
     ensures head_of_run { command_in (map string_bytes words.now) ≡ Some asked.Run → D.meaning.told disk.old → HeadOfRun (is_formatted (D.meaning.files disk.old).log_bytes) result }

@@ -1,5 +1,5 @@
 // The run of one session over the plain store and its log.
-ghost use Rattle.std.specs.Prelude.{◌≡◌, ◌∷◌, ◌<◌, ◌≤◌, ◌^◌, ◌⊎◌, ℕ, [], Some, None, length, OnOk, OnErr, IfOk, IsErrOf};
+ghost use Rattle.std.specs.Prelude.{◌≡◌, ◌∷◌, ◌<◌, ◌≤◌, ◌^◌, ◌⊎◌, ℕ, [], Some, None, length, OnOk, OnErr, IfOk, IfErr, IsErrOf};
 ghost use Rattle.std.specs.Io.KnownBytes.{Appends};
 ghost use Rattle.seg_base.specs.declared.shape.Shape.{Shape};
 ghost use Rattle.seg_base.specs.Faults.{Rose};
@@ -11,7 +11,7 @@ ghost use Rattle.assm.specs.Lawful.{IsLawful};
 ghost use Rattle.assm.specs.Lines.{entry_text};
 ghost use Rattle.assm.specs.Live.{Live, Lasting};
 ghost use Rattle.assm.specs.Means.{Meets, MeetsEnd};
-ghost use Rattle.assm.specs.Runs.{start_at, entry_at, Enters, Grows, Steps, AppendsNewest, CutsNewest, Stops, NothingEnds};
+ghost use Rattle.assm.specs.Runs.{start_at, entry_at, Enters, Grows, Steps, AppendsNewest, CutsNewest, Stops, IsUncut, NothingEnds};
 ghost use Rattle.assm.specs.Spelled.{IsStatement};
 ghost use Rattle.assm.specs.Survives.{commit_told};
 
@@ -160,6 +160,7 @@ impl World {
         ensures lawful { IsLawful self.new.store }
         ensures enters { OnOk result (Enters ordinal begins (D.meaning.clock disk.new) outcome self.new.store self.old.history self.new.history
             × AppendsNewest (K.written sink.old) (K.written sink.new) self.new.history) }
+        ensures uncut { IfErr result (λ fault. (fault ≡ RunFault.WriteFault → ⊥) → (self.new.history ≡ self.old.history) × (K.written sink.new ≡ K.written sink.old)) }
         ensures halts { OnErr result (((self.new.history ≡ self.old.history) × (K.written sink.new ≡ K.written sink.old))
             ⊎ (Enters ordinal begins (D.meaning.clock disk.new) outcome self.new.store self.old.history self.new.history
             × CutsNewest (K.written sink.old) (K.written sink.new) self.new.history)) }
@@ -203,6 +204,7 @@ impl World {
         ensures lines { OnOk result (AppendsNewest (K.written sink.old) (K.written sink.new) self.new.history) }
         ensures stops { OnErr result (Stops (K.written sink.old) (K.written sink.new) self.old.store self.new.store self.old.history self.new.history
             (Steps (Some ordinal) (λ outcome. Meets statement.now outcome self.old.store self.new.store) (D.meaning.clock disk.new) self.old.store self.new.store self.old.history self.new.history)) }
+        ensures uncut { IfErr result (λ fault. (fault ≡ RunFault.WriteFault → ⊥) → IsUncut (K.written sink.old) (K.written sink.new) self.old.history self.new.history) }
         ensures live { (start : ℕ) (shape : Shape) (first : ℕ) → Live D.meaning start shape first disk.old self.old → OnOk result (Live D.meaning start shape first disk.new self.new) }
         ensures lasts { (start : ℕ) (shape : Shape) (first : ℕ) → Live D.meaning start shape first disk.old self.old → OnErr result (Lasting D.meaning start shape first disk.new self.new) }
         ensures device_fault { Causes D.meaning disk.old disk.new (IsErrOf result RunFault.DeviceFault) }
@@ -235,6 +237,7 @@ impl World {
             × AppendsNewest (K.written sink.old) (K.written sink.new) self.new.history)) }
         ensures stops { OnErr result (Stops (K.written sink.old) (K.written sink.new) self.old.store self.new.store self.old.history self.new.history
             (Steps None (λ outcome. MeetsEnd outcome self.old.store self.new.store) (D.meaning.clock disk.new) self.old.store self.new.store self.old.history self.new.history)) }
+        ensures uncut { IfErr result (λ fault. (fault ≡ RunFault.WriteFault → ⊥) → IsUncut (K.written sink.old) (K.written sink.new) self.old.history self.new.history) }
         ensures live { (start : ℕ) (shape : Shape) (first : ℕ) → Live D.meaning start shape first disk.old self.old → OnOk result (Live D.meaning start shape first disk.new self.new) }
         ensures lasts { (start : ℕ) (shape : Shape) (first : ℕ) → Live D.meaning start shape first disk.old self.old → OnErr result (Lasting D.meaning start shape first disk.new self.new) }
         ensures device_fault { Causes D.meaning disk.old disk.new (IsErrOf result RunFault.DeviceFault) }

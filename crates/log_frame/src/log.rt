@@ -87,6 +87,7 @@ fn size_at<D: Disk>(disk: &mut D, at: u64, len: u64) -> Result<Option<u32>, Fram
 #[tactic(auto, using(disk_model::proofs::Going::untouched_then, disk_model::proofs::Going::untouched_call))]
 fn read_group_at<D: Disk>(alloc: Global, disk: &mut D, at: u64) -> Result<Option<Group>, FrameFault>
     ensures found { D.meaning.told disk.old → IsGroupFound (group_found (D.meaning.files disk.old).log_bytes at) result }
+    ensures next { IfOk result (λ o. IfSome o (λ group. group.next ≡ at + 5 + length group.payload)) }
     ensures cause { Causes D.meaning disk.old disk.new (IsErrOf result FrameFault.DeviceFault) }
     ensures untouched { Untouched D.meaning disk.old disk.new }
 {
@@ -208,7 +209,8 @@ impl LogFile {
         Ok(())
     }
 
-    /// The group at a gate, and none where it is closed. `BadFrame` comes as for `open`, never on the log of a store.
+    /// The group at a gate, and none where it is closed. The next gate stands behind its payload. `BadFrame` comes as for
+    /// `open`, never on the log of a store.
     pub fn read_group<D: Disk>(
         &self,
         alloc: Global,
@@ -219,6 +221,7 @@ impl LogFile {
         ensures whole { (shape : Shape) (before after : List (List ℕ)) → D.meaning.told disk.old
             → IsLog shape (before ++ after) (D.meaning.files disk.old).log_bytes → at ≡ 63 + length (frames before)
             → AnswersInMemory result (IsFirst after at) }
+        ensures next { IfOk result (λ o. IfSome o (λ group. group.next ≡ at + 5 + length group.payload)) }
         ensures cause { Causes D.meaning disk.old disk.new (IsErrOf result FrameFault.DeviceFault) }
         ensures untouched { Untouched D.meaning disk.old disk.new }
     {

@@ -7,8 +7,17 @@ use Rattle.disk_model.specs.declared.disk.File.TheVariants.{Data, Log}
 use Rattle.log_frame.specs.Head.{is_formatted, shape_found}
 use Rattle.log_frame.specs.Found.{wrong, Walked}
 use Rattle.log_frame.specs.Spelling.{IsLog}
+use Rattle.log_frame.specs.declared.fault.FrameFault.{FrameFault}
+use Rattle.log_frame.specs.declared.fault.FrameFault.TheVariants as frame
 use Rattle.recovery.specs.declared.fault.OpenFault.{OpenFault}
 use Rattle.recovery.specs.declared.fault.OpenFault.TheVariants.{DeviceFault, NotFormatted, BadFile, AlreadyFormatted, NoMemory}
+
+-- the same fault of a log
+abbrev pub fault_of : FrameFault → OpenFault
+fault_of frame.DeviceFault = DeviceFault
+fault_of frame.NotOpen = NotFormatted
+fault_of (frame.BadFrame offset seen) = BadFile Log offset seen
+fault_of frame.NoMemory = NoMemory
 
 -- the bytes of a store's blocks
 abbrev pub data_size : Shape → ℕ

@@ -11,33 +11,22 @@ ghost use Rattle.recovery.specs.Store.{data_size, IsStore, IsShapeFound, IsLogOp
 
 use crate::OpenFault;
 use disk_model::{Disk, File};
-use log_frame::{FrameFault, LogFile, open, read_shape};
+use log_frame::{LogFile, open, read_shape};
 use seg_base::Shape;
 
 /// Reads the head of the log and tests it, and then that the data file has its blocks. `NotFormatted` comes exactly
 /// where the log isn't formatted, `BadFile` for the log as `BadFrame` for its head, and for the data file with its length
 /// where it is shorter than its blocks.
-#[tactic(auto, using(disk_model::proofs::Going::untouched_then, disk_model::proofs::Going::untouched_call))]
+#[tactic(auto, using(disk_model::proofs::Going::untouched_then, disk_model::proofs::Going::untouched_call, crate::proofs::Faults::head_refused, crate::proofs::Faults::refused_answers, crate::proofs::Faults::not_made))]
 pub fn read_head<D: Disk>(disk: &mut D) -> Result<Shape, OpenFault>
     ensures found { D.meaning.told disk.old → IsShapeFound (D.meaning.files disk.old) result }
     ensures whole { (shape : Shape) (groups : List (List ℕ)) → D.meaning.told disk.old → IsStore shape groups (D.meaning.files disk.old)
         → Answers result (λ answer. answer ≡ shape) }
+    ensures only { IsErrOf result OpenFault.AlreadyFormatted → ⊥ }
     ensures cause { Causes D.meaning disk.old disk.new (IsErrOf result OpenFault.DeviceFault) }
     ensures untouched { Untouched D.meaning disk.old disk.new }
 {
-    let shape = match read_shape(disk) {
-        Ok(shape) => shape,
-        Err(FrameFault::DeviceFault) => return Err(OpenFault::DeviceFault),
-        Err(FrameFault::NotOpen) => return Err(OpenFault::NotFormatted),
-        Err(FrameFault::BadFrame { offset, seen }) => {
-            return Err(OpenFault::BadFile {
-                file: File::Log,
-                offset,
-                seen,
-            });
-        }
-        Err(FrameFault::NoMemory) => return Err(OpenFault::NoMemory),
-    };
+    let shape = read_shape(disk)?;
     let Ok(len) = disk.len(File::Data) else {
         return Err(OpenFault::DeviceFault);
     };
@@ -52,23 +41,15 @@ pub fn read_head<D: Disk>(disk: &mut D) -> Result<Shape, OpenFault>
 }
 
 /// Opens the log from a gate on.
+#[tactic(auto, using(crate::proofs::Faults::log_refused, crate::proofs::Faults::refused_answers, crate::proofs::Faults::not_made))]
 pub fn open_log<D: Disk>(disk: &mut D, from: u64) -> Result<LogFile, OpenFault>
     ensures found { D.meaning.told disk.old → IsLogOpened (D.meaning.files disk.old) from result }
     ensures whole { (shape : Shape) (before after : List (List ℕ)) → IsSettled D.meaning disk.old Log
         → IsStore shape (before ++ after) (D.meaning.files disk.old) → from ≡ 63 + length (frames before)
         → Answers result (λ end. IsReady D.meaning disk.new shape (before ++ after) end) }
+    ensures only { IsErrOf result OpenFault.AlreadyFormatted → ⊥ }
     ensures cause { Causes D.meaning disk.old disk.new (IsErrOf result OpenFault.DeviceFault) }
     ensures untouched { Untouched D.meaning disk.old disk.new }
 {
-    match open(disk, from) {
-        Ok(log) => Ok(log),
-        Err(FrameFault::DeviceFault) => Err(OpenFault::DeviceFault),
-        Err(FrameFault::NotOpen) => Err(OpenFault::NotFormatted),
-        Err(FrameFault::BadFrame { offset, seen }) => Err(OpenFault::BadFile {
-            file: File::Log,
-            offset,
-            seen,
-        }),
-        Err(FrameFault::NoMemory) => Err(OpenFault::NoMemory),
-    }
+    Ok(open(disk, from)?)
 }

@@ -4,7 +4,7 @@ use Rattle.assm.specs.declared.entry.HistoryItem.{HistoryItem}
 use Rattle.assm.specs.Lines.{text_of}
 use Rattle.assm.specs.Means.{Meets}
 use Rattle.assm.proofs.Histories.{Between, at_first, statement_between}
-use Rattle.assm.proofs.Texts.{appends_none, text_step, statement_stopped, end_stopped, finished}
+use Rattle.assm.proofs.Texts.{appends_none, text_step, statement_stopped, end_stopped, finished, still_whole}
 use Rattle.assm.proofs.Scripts.{got_at, statement_at}
 use Rattle.assm.proofs.run.run_statements.Goals as goal
 
@@ -79,3 +79,9 @@ returns-in-Err-close-clause-stopped g c =
 
 pub returns-in-Err-close-clause-lasts : goal.returns-in-Err-close-clause-lasts
 returns-in-Err-close-clause-lasts g c = λ start shape first h. c.in-Err-close.ensures.lasts start shape first (c.loop-i.invariant.live start shape first h)
+
+pub returns-in-Err-clause-uncut : goal.returns-in-Err-clause-uncut
+returns-in-Err-clause-uncut g c = λ other. still_whole (g.K.Sink.written c.args.sink.now) (g.K.Sink.written c.loop-i.sink) (g.K.Sink.written c.step.new.sink) c.loop-i.world.history c.step.new.self.history c.loop-i.invariant.took (c.in-Err.ensures.uncut other)
+
+pub returns-in-Err-close-clause-uncut : goal.returns-in-Err-close-clause-uncut
+returns-in-Err-close-clause-uncut g c = λ other. still_whole (g.K.Sink.written c.args.sink.now) (g.K.Sink.written c.loop-i.sink) (g.K.Sink.written c.close.new.sink) c.loop-i.world.history c.close.new.self.history c.loop-i.invariant.took (c.in-Err-close.ensures.uncut other)

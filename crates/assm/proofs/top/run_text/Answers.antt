@@ -1,7 +1,9 @@
 use Rattle.std.proofs.Common.{List, length, ap, sym, ◌∙◌, subst, Ok, Err}
 use Rattle.assm.specs.declared.statement.Statement.{Statement}
 use Rattle.assm.specs.declared.status.Status.{Status}
-use Rattle.assm.specs.declared.opening.OpenFault.{OpenFault}
+use Rattle.recovery.specs.declared.fault.OpenFault.{OpenFault}
+use Rattle.assm.specs.declared.world.World.{World}
+use Rattle.assm.specs.Finds.{OpensWith}
 use Rattle.log_frame.specs.Head.{is_formatted}
 use Rattle.assm.specs.Heads.{HeadOfRun}
 use Rattle.assm.specs.Top.{RunTells}
@@ -15,7 +17,7 @@ returns-in-Err-open-clause-tells g c =
     let meaning = g.D.Disk.meaning in
     let written = g.K.Sink.written c.args.sink.now in
     subst (λ (s : Status). RunTells meaning c.args.disk.now c.open.new.disk written written s c.args.text.now) (sym c.from-in-Err-open.ensures)
-    (open_tells meaning c.args.disk.now c.open.new.disk written c.args.text.now c.in-Err-open.fault c.open.ensures.untouched c.in-Err-open.ensures.opened (λ e. c.in-Err-open.ensures.made (ap (λ (f : OpenFault). Err f) e)))
+    (open_tells meaning c.args.disk.now c.open.new.disk written c.args.text.now (λ (world : World). OpensWith (meaning.files c.args.disk.now) world.store) c.in-Err-open.fault (_, c.in-Ok.ensures.read) c.open.ensures.untouched c.in-Err-open.ensures.opened c.in-Err-open.ensures.found (λ e. c.in-Err-open.ensures.made (ap (λ (f : OpenFault). Err f) e)))
 
 pub returns-in-Ok-run-clause-tells : goal.returns-in-Ok-run-clause-tells
 returns-in-Ok-run-clause-tells g c =
@@ -30,6 +32,7 @@ returns-in-Ok-run-clause-tells g c =
       history = w.history;
       finished = c.in-Ok-run.ensures.finished;
       kept = record {
+        opened = c.in-Ok-open.ensures.found;
         taken = λ shape R h. (c.in-Ok-open.ensures.opened shape R h).1;
         lasts = λ shape R h. live_lasts meaning (meaning.clock d0) shape (length R) w.store w.history c.run.new.disk w.log w.stable (c.in-Ok-run.ensures.live (meaning.clock d0) shape (length R) (c.in-Ok-open.ensures.opened shape R h).0);
       };
@@ -52,20 +55,22 @@ returns-clause-tells g c =
       history = w.history;
       stopped = c.in-Err-run.ensures.stopped;
       kept = record {
+        opened = c.in-Ok-open.ensures.found;
         taken = λ shape R h. (c.in-Ok-open.ensures.opened shape R h).1;
         lasts = λ shape R h. c.in-Err-run.ensures.lasts (meaning.clock d0) shape (length R) (c.in-Ok-open.ensures.opened shape R h).0;
       };
-    }))
+    }) c.in-Err-run.ensures.uncut)
 
 pub returns-in-Err-open-clause-head : goal.returns-in-Err-open-clause-head
 returns-in-Err-open-clause-head g c = λ told.
-    let formatted = is_formatted (g.D.Disk.meaning.files c.args.disk.now).log_bytes in
-    subst (λ (s : Status). HeadOfRun formatted s) (sym c.from-in-Err-open.ensures) (open_head formatted c.in-Err-open.fault (c.in-Err-open.ensures.head told))
+    let files = g.D.Disk.meaning.files c.args.disk.now in
+    let P : World → Type 0 = λ world. OpensWith files world.store in
+    subst (λ (s : Status). HeadOfRun (is_formatted files.log_bytes) s) (sym c.from-in-Err-open.ensures) (open_head files P c.in-Err-open.fault (c.in-Err-open.ensures.found told))
 
 pub returns-in-Ok-run-clause-head : goal.returns-in-Ok-run-clause-head
-returns-in-Ok-run-clause-head g c = λ told. c.in-Ok-open.ensures.head told
+returns-in-Ok-run-clause-head g c = λ told. (c.in-Ok-open.ensures.found told).store.formatted
 
 pub returns-clause-head : goal.returns-clause-head
 returns-clause-head g c = λ told.
     let formatted = is_formatted (g.D.Disk.meaning.files c.args.disk.now).log_bytes in
-    subst (λ (s : Status). HeadOfRun formatted s) (sym c.from-in-Err-run.ensures) (run_head formatted c.in-Err-run.fault (c.in-Ok-open.ensures.head told))
+    subst (λ (s : Status). HeadOfRun formatted s) (sym c.from-in-Err-run.ensures) (run_head formatted c.in-Err-run.fault (c.in-Ok-open.ensures.found told).store.formatted)

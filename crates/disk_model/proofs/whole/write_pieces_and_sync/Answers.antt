@@ -1,6 +1,6 @@
 use Rattle.std.proofs.Common.{◌≡◌, ◌+◌, ◌++◌, length, arith, length-append}
 use Rattle.disk_model.proofs.WriteAndSync.{first_write, next_write, next_made, after_sync, is_put, all_torn}
-use Rattle.disk_model.proofs.whole.write_framed_and_sync.Goals as goal
+use Rattle.disk_model.proofs.whole.write_pieces_and_sync.Goals as goal
 
 pub returns-in_err-write_at-clause-any_moment : goal.returns-in_err-write_at-clause-any_moment
 returns-in_err-write_at-clause-any_moment g c settled =

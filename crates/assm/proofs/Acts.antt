@@ -1,19 +1,17 @@
 -- What a statement's tests tell the store.
-use Rattle.std.proofs.Common.{◌≡◌, ℕ, ◌≤◌, Bool, true, false, cond, ◌&&◌, ◌||◌, eqb, eq-eqb, List, [], ◌∷◌, length, refl, ap, ◌∙◌, arith, Some}
-use Rattle.std.proofs.lemmas.Bool.{ltb-true, leb-true}
-use Rattle.std.specs.List.{list_any}
-use Rattle.std.specs.Str.{bytes_eq}
+use Rattle.std.proofs.Common.{◌≡◌, ℕ, ◌≤◌, Bool, true, false, cond, ◌&&◌, ◌||◌, eqb, eq-eqb, List, [], ◌∷◌, length, refl, ap, ◌∙◌, arith, Some, ltb-true, leb-true, bytes_eq}
+use Rattle.seg_words.specs.Types.{list_any}
 use Rattle.assm.specs.declared.record.CatalogueRow.{CatalogueRow}
 use Rattle.assm.specs.declared.record.Record.{Record}
 use Rattle.assm.specs.Redo.{find_named, named, is_there, tables_of, commit_count}
 use Rattle.assm.specs.Script.{is_text}
 use Rattle.assm.specs.Runs.{Grows}
 use Rattle.assm.specs.declared.statement.Statement.{Statement}
-use Rattle.assm.specs.declared.statement.Statement.TheVariants as asked
 use Rattle.assm.specs.declared.entry.Outcome.{Outcome}
-use Rattle.assm.specs.declared.entry.Outcome.TheVariants as told
 use Rattle.assm.specs.Means.{Meets}
 use Rattle.assm.specs.Survives.{commit_told}
+use Rattle.assm.specs.declared.statement.Statement.TheVariants as asked
+use Rattle.assm.specs.declared.entry.Outcome.TheVariants as told
 
 there : (name : List ℕ) (obj : ℕ) (rows : List CatalogueRow) → find_named name rows ≡ Some obj → list_any (λ row. eqb row.obj obj) rows ≡ true
 there name obj [] h = cc

@@ -1,8 +1,6 @@
 -- One statement more.
-use Rattle.std.proofs.Common.{◌≡◌, ℕ, Bool, true, false, not, List, [], ◌∷◌, ◌++◌, refl, ap, sym, ◌∙◌, subst}
-use Rattle.std.proofs.lemmas.List.{append-nil}
-use Rattle.std.specs.List.{list_any, list_all}
-use Rattle.std.specs.Str.{bytes_eq}
+use Rattle.std.proofs.Common.{◌≡◌, ℕ, Bool, true, false, not, List, [], ◌∷◌, ◌++◌, refl, ap, sym, ◌∙◌, subst, append-nil, bytes_eq}
+use Rattle.seg_words.specs.Types.{list_any, list_all}
 use Rattle.assm.specs.declared.statement.Statement.{Statement}
 use Rattle.assm.specs.declared.statement.Statement.TheVariants.{Table, Insert, Commit, Scan}
 use Rattle.assm.specs.Script.{labels_of, may_follow}

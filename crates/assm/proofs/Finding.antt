@@ -1,6 +1,5 @@
 -- What was read of a group and of a log, one more at a time.
-use Rattle.std.proofs.Common.{◌≡◌, ℕ, ◌+◌, ◌<◌, Bool, true, false, List, [], ◌∷◌, ◌++◌, length, Option, Some, None, refl, ap, sym, ◌∙◌, inl, inr, subst, arith}
-use Rattle.std.specs.Prelude.{◌-◌, slice_index, Result, Ok, Err}
+use Rattle.std.proofs.Common.{◌≡◌, ℕ, ◌+◌, ◌<◌, Bool, true, false, List, [], ◌∷◌, length, Some, None, refl, ap, sym, ◌∙◌, inl, inr, subst, arith, ◌-◌, slice_index, Ok, Err}
 use Rattle.disk_model.specs.Files.{Files}
 use Rattle.disk_model.specs.declared.disk.File.TheVariants.{Data, Log}
 use Rattle.log_frame.specs.Head.{is_formatted}
@@ -8,17 +7,17 @@ use Rattle.log_frame.specs.Frame.{group_found}
 use Rattle.log_frame.specs.Found.{IsGroupFound}
 use Rattle.log_frame.specs.declared.log.Group.{Group}
 use Rattle.log_frame.specs.declared.fault.FrameFault.{FrameFault}
-use Rattle.log_frame.specs.declared.fault.FrameFault.TheVariants as frame
 use Rattle.recovery.specs.Store.{fault_of, IsShapeFound, IsLogOpened}
 use Rattle.recovery.specs.declared.fault.OpenFault.{OpenFault}
-use Rattle.recovery.specs.declared.fault.OpenFault.TheVariants as opening
-use Rattle.seg_base.specs.declared.shape.Shape.{Shape}
+use Rattle.seg_words.specs.Types.{Shape}
 use Rattle.assm.specs.declared.record.Record.{Record}
 use Rattle.assm.specs.declared.replay.GroupFault.{GroupFault}
-use Rattle.assm.specs.declared.replay.GroupFault.TheVariants as group
 use Rattle.assm.specs.Lawful.{IsAllowed, Replays}
 use Rattle.assm.specs.Plain.{record_in}
-use Rattle.assm.specs.Finds.{ReadTo, IsRead, NoRecord, IsOneRead, IsBadGroup, IsReadUpTo, HasRecords, Finds, HasStore}
+use Rattle.assm.specs.Finds.{IsRead, IsOneRead, IsBadGroup, IsReadUpTo, HasRecords, Finds, HasStore}
+use Rattle.log_frame.specs.declared.fault.FrameFault.TheVariants as frame
+use Rattle.recovery.specs.declared.fault.OpenFault.TheVariants as opening
+use Rattle.assm.specs.declared.replay.GroupFault.TheVariants as group
 
 -- ---- one record
 pub one_read : (done : Bool) (bytes left : List ℕ) (made : Record) (R R' : List Record) → record_in bytes ≡ Some (made, left) → Replays done made R R' → IsOneRead done bytes R left R'

@@ -1,6 +1,6 @@
 -- A flush, as a world sees it.
-use Rattle.std.proofs.Common.{◌≡◌, ℕ, ◌≤◌, List, [], ◌∷◌, ◌++◌, length, length-append, ap, sym, refl, subst, arith, Err, Option, ◌⊎◌, inl, inr, ◌∙◌}
-use Rattle.seg_base.specs.declared.shape.Shape.{Shape}
+use Rattle.std.proofs.Common.{◌≡◌, ℕ, ◌≤◌, List, [], ◌∷◌, ◌++◌, length, length-append, ap, sym, refl, subst, arith, Err, Option, ◌⊎◌, inl, inr, ◌∙◌, IsErrOf, Result}
+use Rattle.seg_words.specs.Types.{Shape}
 use Rattle.disk_model.specs.Crash.{Meaning, Leaves}
 use Rattle.disk_model.specs.Only.{OnlyFile}
 use Rattle.disk_model.specs.declared.disk.File.TheVariants.{Log}
@@ -11,18 +11,16 @@ use Rattle.assm.specs.declared.entry.HistoryItem.{HistoryItem}
 use Rattle.assm.specs.Redo.{prefix, commit_count}
 use Rattle.assm.specs.Plain.{IsSpelledSince}
 use Rattle.assm.proofs.Histories.{prefix_all}
-use Rattle.assm.specs.Survives.{IsLive, Lasts}
+use Rattle.assm.specs.Survives.{IsLive, Lasts, commit_told}
 use Rattle.assm.specs.declared.entry.Entry.{Entry}
-use Rattle.assm.specs.declared.entry.HistoryItem.TheVariants as item
 use Rattle.assm.specs.declared.fault.RunFault.{RunFault}
-use Rattle.assm.specs.declared.fault.RunFault.TheVariants as run
-use Rattle.std.specs.Prelude.{IsErrOf, Result}
 use Rattle.assm.specs.Lawful.{IsLawful}
 use Rattle.assm.specs.Runs.{start_at, entry_at, Enters, Grows, Steps, Stops, CutsNewest}
 use Rattle.assm.specs.declared.world.World.{World}
 use Rattle.assm.specs.declared.entry.Outcome.{Outcome}
-use Rattle.assm.specs.Survives.{commit_told}
 use Rattle.assm.proofs.Survival.{live_flush, lasts_flush, live_entry, live_lasts, live_more, live_start}
+use Rattle.assm.specs.declared.entry.HistoryItem.TheVariants as item
+use Rattle.assm.specs.declared.fault.RunFault.TheVariants as run
 
 -- what appending a payload promises
 abbrev pub LeavesGroup : {D : Type 0} → Meaning D → D → D → ℕ → List ℕ → Type 0

@@ -1,15 +1,12 @@
 -- The groups of a log, one after the other.
-use Rattle.std.proofs.Common.{◌≡◌, ℕ, ◌+◌, ◌<◌, List, [], ◌∷◌, ◌++◌, length, Option, Some, None, refl, ap, sym, ◌∙◌, arith, subst, append_assoc, length-append}
-use Rattle.std.proofs.lemmas.Grind.{flat_map-append}
-use Rattle.std.specs.Prelude.{is_some, Result, Err}
-use Rattle.std.proofs.lemmas.Bool.{true≢false}
+use Rattle.std.proofs.Common.{◌≡◌, ℕ, ◌+◌, ◌<◌, List, [], ◌∷◌, ◌++◌, length, Option, Some, None, refl, ap, sym, ◌∙◌, arith, subst, append_assoc, length-append, is_some, Result, Err, true≢false}
+use Rattle.seg_words.proofs.Lemmas.{flat_map-append}
 use Rattle.log_frame.specs.Frame.{frame, frames, group_found}
 use Rattle.log_frame.specs.Found.{IsFirst, IsGroupFound, AnswersInMemory}
 use Rattle.log_frame.specs.Spelling.{IsLog}
 use Rattle.log_frame.specs.Ready.{IsReady}
 use Rattle.log_frame.specs.declared.fault.FrameFault.{FrameFault}
-use Rattle.log_frame.specs.declared.fault.FrameFault.TheVariants as refusal
-use Rattle.seg_base.specs.declared.shape.Shape.{Shape}
+use Rattle.seg_words.specs.Types.{Shape}
 use Rattle.disk_model.specs.Files.{Files}
 use Rattle.disk_model.specs.Crash.{Meaning, Untouched}
 use Rattle.recovery.specs.Store.{fault_of}
@@ -19,6 +16,7 @@ use Rattle.assm.specs.declared.record.Record.{Record}
 use Rattle.assm.specs.Lawful.{IsLawful}
 use Rattle.assm.specs.Plain.{spelled_all, AreFit}
 use Rattle.assm.specs.Survives.{Holds}
+use Rattle.log_frame.specs.declared.fault.FrameFault.TheVariants as refusal
 
 -- the groups before this gate led to these records
 pub record HasRead (groups : List (List ℕ)) (R : List Record) (at : ℕ) (store : List Record) : Type 0 where

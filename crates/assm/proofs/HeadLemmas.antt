@@ -1,15 +1,15 @@
 -- What an answer says of whether the log is formatted.
 use Rattle.std.proofs.Common.{◌≡◌, Bool, true, Err}
 use Rattle.disk_model.specs.Files.{Files}
-use Rattle.disk_model.specs.declared.disk.File.TheVariants as file
 use Rattle.log_frame.specs.Head.{is_formatted}
 use Rattle.recovery.specs.declared.fault.OpenFault.{OpenFault}
-use Rattle.recovery.specs.declared.fault.OpenFault.TheVariants as opening
 use Rattle.assm.specs.declared.fault.RunFault.{RunFault}
-use Rattle.assm.specs.declared.fault.RunFault.TheVariants as run
 use Rattle.assm.specs.Finds.{Finds}
 use Rattle.assm.specs.Status.{status_of_open, status_of_run}
 use Rattle.assm.specs.Heads.{HeadOfRun}
+use Rattle.disk_model.specs.declared.disk.File.TheVariants as file
+use Rattle.recovery.specs.declared.fault.OpenFault.TheVariants as opening
+use Rattle.assm.specs.declared.fault.RunFault.TheVariants as run
 
 pub open_head : {A : Type 0} (files : Files) (P : A → Type 0) (fault : OpenFault) → Finds files P (Err fault) → HeadOfRun (is_formatted files.log_bytes) (status_of_open fault)
 open_head files P opening.DeviceFault h = tt

@@ -1,19 +1,19 @@
 -- How a run stays legal, step by step.
 use Rattle.std.proofs.Common.{◌≡◌, ℕ, suc, ◌+◌, ◌-◌, ◌≤◌, List, [], ◌∷◌, ◌++◌, length, drop, refl, ap, sym, ◌∙◌, arith, Option, Some, None, inl, inr, subst, slice_get, length-append, length-drop}
 use Rattle.assm.specs.declared.record.Record.{Record}
-use Rattle.assm.specs.declared.record.Record.TheVariants as made
 use Rattle.assm.specs.declared.statement.Statement.{Statement}
-use Rattle.assm.specs.declared.statement.Statement.TheVariants as asked
 use Rattle.assm.specs.declared.entry.Outcome.{Outcome}
-use Rattle.assm.specs.declared.entry.Outcome.TheVariants as told
 use Rattle.assm.specs.declared.entry.Entry.{Entry}
 use Rattle.assm.specs.declared.entry.HistoryItem.{HistoryItem}
-use Rattle.assm.specs.declared.entry.HistoryItem.TheVariants as item
 use Rattle.assm.specs.Redo.{prefix}
 use Rattle.assm.specs.Lawful.{IsLawful}
 use Rattle.assm.specs.Means.{Meets, MeetsEnd}
 use Rattle.assm.specs.Legal.{under_way, last_of, entry_count, StartStands, EntryStands, MeetsPlace, Stands, IsTold, IsLegal}
 use Rattle.assm.specs.Runs.{start_at, entry_at, Grows, Steps}
+use Rattle.assm.specs.declared.record.Record.TheVariants as made
+use Rattle.assm.specs.declared.statement.Statement.TheVariants as asked
+use Rattle.assm.specs.declared.entry.Outcome.TheVariants as told
+use Rattle.assm.specs.declared.entry.HistoryItem.TheVariants as item
 
 less_one : (l n : ℕ) → n ≤ l → suc l - n ≡ suc (l - n)
 less_one l n h = omega arith

@@ -1,8 +1,7 @@
 -- Keys that are vectors, seen as their bytes.
-use Rattle.std.proofs.Common.{◌≡◌, ℕ, Vec, map, false, cond, ◌||◌, List, [], ◌∷◌, ◌++◌, refl, ap, ◌∙◌}
-use Rattle.std.proofs.lemmas.List.{map-append}
-use Rattle.std.specs.List.{list_any}
-use Rattle.std.specs.Str.{bytes_eq}
+use Rattle.std.proofs.Common.{◌≡◌, ℕ, Vec, map, false, cond, ◌||◌, List, [], ◌∷◌, ◌++◌, refl, ap, ◌∙◌, bytes_eq}
+use Rattle.seg_words.proofs.Lemmas.{map-append}
+use Rattle.seg_words.specs.Types.{list_any}
 use Rattle.indexmap.specs.IndexSet.{insert_key}
 
 pub any_map : {A : Type 0} → (q : List ℕ) (ks : List (Vec ℕ A)) → list_any (λ k. bytes_eq q k.items) ks ≡ list_any (bytes_eq q) (map (λ k. k.items) ks)

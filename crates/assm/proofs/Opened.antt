@@ -1,6 +1,6 @@
 -- A sound store that was opened.
 use Rattle.std.proofs.Common.{◌≡◌, ℕ, ◌≤◌, List, [], ◌∷◌, length, ap, sym, ◌∙◌, arith, inl, inr, subst, Ok, Err, length-append}
-use Rattle.seg_base.specs.declared.shape.Shape.{Shape}
+use Rattle.seg_words.specs.Types.{Shape}
 use Rattle.disk_model.specs.Files.{Files}
 use Rattle.disk_model.specs.Crash.{Meaning, Untouched}
 use Rattle.disk_model.specs.Only.{IsSettled}
@@ -9,15 +9,15 @@ use Rattle.log_frame.specs.Spelling.{IsLog}
 use Rattle.log_frame.specs.Ready.{IsReady}
 use Rattle.recovery.specs.Store.{Answers, IsStore}
 use Rattle.recovery.specs.declared.fault.OpenFault.{OpenFault}
-use Rattle.recovery.specs.declared.fault.OpenFault.TheVariants as opening
 use Rattle.assm.specs.declared.record.Record.{Record}
-use Rattle.assm.specs.declared.record.Record.TheVariants as made
 use Rattle.assm.specs.Redo.{prefix}
 use Rattle.assm.specs.Lawful.{IsLawful}
 use Rattle.assm.specs.Runs.{Grows}
 use Rattle.assm.specs.Survives.{Holds, has_blocks, IsSound, IsLive}
 use Rattle.assm.specs.Opens.{StartsSound, IsOutside, TakenBack}
 use Rattle.assm.proofs.Histories.{prefix_all, prefix_grown}
+use Rattle.recovery.specs.declared.fault.OpenFault.TheVariants as opening
+use Rattle.assm.specs.declared.record.Record.TheVariants as made
 
 pub outside_of : {A : Type 0} (fault : OpenFault) (P : A → Type 0) → Answers (Err fault) P → IsOutside fault
 outside_of opening.DeviceFault P h = tt

@@ -1,8 +1,5 @@
 -- Records that are read back.
-use Rattle.std.proofs.Common.{◌≡◌, ℕ, ◌<◌, ◌≤◌, Bool, true, false, List, [], ◌∷◌, ◌++◌, length, Option, Some, None, refl, ap, sym, ◌∙◌, arith, subst, append_assoc, length-append}
-use Rattle.std.proofs.lemmas.Bool.{true≢false}
-use Rattle.std.specs.Prelude.{is_some}
-use Rattle.std.proofs.lemmas.List.{append-nil}
+use Rattle.std.proofs.Common.{◌≡◌, ℕ, ◌<◌, ◌≤◌, Bool, true, false, List, [], ◌∷◌, ◌++◌, length, Option, Some, None, refl, ap, sym, ◌∙◌, arith, subst, append_assoc, length-append, true≢false, is_some, append-nil}
 use Rattle.assm.specs.declared.record.Record.{Record}
 use Rattle.assm.specs.Lawful.{IsAllowed, IsLawful, Replays}
 use Rattle.assm.specs.Plain.{spelled, spelled_all, IsFit, AreFit, record_in}

@@ -1,13 +1,9 @@
 -- What is read is spelled so, and what is spelled so is read.
-use Rattle.std.proofs.Common.{◌≡◌, ℕ, zero, suc, ◌^◌, ◌≤◌, ◌<◌, ◌==◌, ◌&&◌, ◌||◌, ◌⊎◌, option_and_then, not, Bool, true, false, cond, List, [], ◌∷◌, ◌++◌, length, fold, get_or, slice_index, nat_lt, nat_le, refl, ap, sym, ◌∙◌, arith, subst, rules, Option, Some, None, eqb, eq-eqb, append_assoc, codes, inl, inr}
-use Rattle.std.proofs.lemmas.Bool.{ne_eqb, lt-ltb, ltb-true, ltb-false, leb-true, le-leb, eqb-true, true≢false}
+use Rattle.std.proofs.Common.{◌≡◌, ℕ, zero, suc, ◌^◌, ◌≤◌, ◌<◌, ◌==◌, ◌&&◌, ◌||◌, ◌⊎◌, option_and_then, not, Bool, true, false, cond, List, [], ◌∷◌, ◌++◌, length, fold, get_or, slice_index, nat_lt, nat_le, refl, ap, sym, ◌∙◌, arith, subst, rules, Option, Some, None, eqb, eq-eqb, append_assoc, codes, inl, inr, ne_eqb, lt-ltb, ltb-true, ltb-false, leb-true, le-leb, eqb-true, true≢false, bytes_eq, decimal}
 use Rattle.std.proofs.lemmas.Slice.Eq.{bytes_eq-Decides}
-use Rattle.std.specs.Str.{bytes_eq}
 use Rattle.std.proofs.lemmas.Str.Parse.{IsNumeralModel, numerals_by_fold}
 use Rattle.std.proofs.lemmas.Fmt.{digits_decimal, digits_value-decimal, decimal-digits_value, decimal_nonempty, first_decimal, decimal_digit}
-use Rattle.std.specs.Fmt.{decimal}
-use Rattle.std.specs.List.{list_all}
-use Rattle.seg_base.specs.Words.{is_name, is_name_byte}
+use Rattle.seg_words.specs.Types.{list_all, is_name, is_name_byte}
 use Rattle.assm.specs.declared.statement.Statement.{Statement}
 use Rattle.assm.specs.declared.statement.Statement.TheVariants.{Table, Insert, Commit, Scan}
 use Rattle.assm.specs.Bytes.{cut, number_of, is_number, is_digit, value_of, value_within, with_digit}

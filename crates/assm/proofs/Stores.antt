@@ -1,7 +1,7 @@
 -- Counts of records are within the number of records.
 use Rattle.std.proofs.Common.{◌≡◌, ℕ, refl, ◌≤◌, Bool, true, false, ◌||◌, eqb, List, [], ◌∷◌, ◌++◌, ap, sym, ◌∙◌, arith, reverse, length}
-use Rattle.std.proofs.lemmas.List.{reverse-append, length-reverse}
-use Rattle.std.specs.List.{list_any}
+use Rattle.seg_words.proofs.Lemmas.{reverse-append, length-reverse}
+use Rattle.seg_words.specs.Types.{list_any}
 use Rattle.assm.specs.declared.record.Record.{Record}
 use Rattle.assm.specs.declared.record.Record.TheVariants.{Table, Begin, Insert, Commit, Ended}
 use Rattle.assm.specs.declared.record.CatalogueRow.{CatalogueRow}

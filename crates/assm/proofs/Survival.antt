@@ -1,8 +1,7 @@
 -- How what was told goes on to survive.
-use Rattle.std.proofs.Common.{◌≡◌, ℕ, ◌-◌, ◌*◌, ◌≤◌, List, [], ◌∷◌, ◌++◌, length, take, drop, ap, sym, ◌∙◌, arith, inl, inr, subst, length-append}
-use Rattle.std.proofs.lemmas.Bool.{cases_order}
-use Rattle.std.proofs.lemmas.List.{take-append-drop}
-use Rattle.seg_base.specs.declared.shape.Shape.{Shape}
+use Rattle.std.proofs.Common.{◌≡◌, ℕ, ◌-◌, ◌≤◌, List, [], ◌∷◌, ◌++◌, length, take, drop, ap, sym, ◌∙◌, arith, inl, inr, subst, length-append, take-append-drop}
+use Rattle.seg_words.proofs.Lemmas.{cases_order}
+use Rattle.seg_words.specs.Types.{Shape}
 use Rattle.disk_model.specs.Files.{Files}
 use Rattle.disk_model.specs.Crash.{Meaning, Now, Leaves}
 use Rattle.disk_model.specs.Only.{OnlyFile}
@@ -14,7 +13,6 @@ use Rattle.assm.specs.declared.record.Record.TheVariants.{Table, Begin, Insert, 
 use Rattle.assm.specs.declared.entry.Entry.{Entry}
 use Rattle.assm.specs.declared.entry.Start.{Start}
 use Rattle.assm.specs.declared.entry.HistoryItem.{HistoryItem}
-use Rattle.assm.specs.declared.entry.HistoryItem.TheVariants as item
 use Rattle.assm.specs.Redo.{prefix, commit_count}
 use Rattle.assm.specs.Lawful.{IsLawful}
 use Rattle.assm.specs.Legal.{AreInTime}
@@ -22,6 +20,7 @@ use Rattle.assm.specs.Plain.{spelled_all, AreFit}
 use Rattle.recovery.specs.Store.{data_size}
 use Rattle.assm.specs.Survives.{Holds, has_blocks, IsSound, AreTold, commit_told, SurvivesIn, Survives, Lasts, IsStable, IsLive}
 use Rattle.assm.proofs.Histories.{prefix_all, prefix_grown}
+use Rattle.assm.specs.declared.entry.HistoryItem.TheVariants as item
 
 -- ---- groups
 holds_more : (groups : List (List ℕ)) (payload : List ℕ) (R0 R newer : List Record) → Holds groups R0 R → payload ≡ spelled_all newer → AreFit newer → Holds (groups ++ payload ∷ []) R0 (newer ++ R)

@@ -1,7 +1,6 @@
 -- What the sink took, step by step.
-use Rattle.std.proofs.Common.{◌≡◌, ℕ, ◌+◌, ◌⊎◌, List, [], ◌∷◌, ◌++◌, length, take, refl, slice_get, ap, sym, ◌∙◌, arith, Option, Some, None, inl, inr, subst, length-append, append_assoc}
-use Rattle.std.proofs.lemmas.List.{append-nil, take_all}
-use Rattle.std.proofs.Math.Seq.{take-append-add}
+use Rattle.std.proofs.Common.{◌≡◌, ℕ, ◌+◌, ◌⊎◌, List, [], ◌∷◌, ◌++◌, length, take, refl, slice_get, ap, sym, ◌∙◌, arith, Option, Some, None, inl, inr, subst, length-append, append_assoc, append-nil, take_all}
+use Rattle.seg_words.proofs.Lemmas.{take-append-add}
 use Rattle.std.specs.Io.KnownBytes.{Appends}
 use Rattle.text_port.specs.Whole.{AppendsPrefix}
 use Rattle.assm.specs.declared.record.Record.{Record}

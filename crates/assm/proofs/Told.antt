@@ -1,27 +1,27 @@
 -- What the top call tells.
 use Rattle.std.proofs.Common.{◌≡◌, ℕ, List, [], length, refl, ap, sym, ◌∙◌, inl, inr, subst, Option, Err}
-use Rattle.seg_base.specs.declared.shape.Shape.{Shape}
+use Rattle.seg_words.specs.Types.{Shape}
 use Rattle.disk_model.specs.Files.{Files}
 use Rattle.disk_model.specs.Crash.{Meaning, Now, Untouched}
 use Rattle.log_frame.specs.Spelling.{IsLog}
 use Rattle.assm.specs.declared.record.Record.{Record}
 use Rattle.assm.specs.declared.entry.HistoryItem.{HistoryItem}
 use Rattle.recovery.specs.declared.fault.OpenFault.{OpenFault}
-use Rattle.recovery.specs.declared.fault.OpenFault.TheVariants as opening
 use Rattle.assm.specs.declared.fault.RunFault.{RunFault}
-use Rattle.assm.specs.declared.fault.RunFault.TheVariants as run
 use Rattle.assm.specs.Redo.{prefix}
 use Rattle.assm.specs.Survives.{IsSound, IsLive, Holds}
 use Rattle.assm.specs.Opens.{StartsSound, IsOutside}
 use Rattle.assm.specs.Status.{status_of_open, status_of_run}
 use Rattle.assm.specs.declared.status.Status.{Status}
-use Rattle.assm.specs.declared.status.Status.TheVariants as the
 use Rattle.assm.specs.declared.script.Why.{Why}
 use Rattle.std.specs.Io.KnownBytes.{Appends}
 use Rattle.assm.specs.Finds.{Finds}
 use Rattle.assm.specs.Lines.{text_of}
 use Rattle.assm.specs.Top.{RanPart, IsAccepted, RunTells, ScriptTells, FormatTells, HadScript, IsRefused}
 use Rattle.assm.proofs.Histories.{prefix_all}
+use Rattle.recovery.specs.declared.fault.OpenFault.TheVariants as opening
+use Rattle.assm.specs.declared.fault.RunFault.TheVariants as run
+use Rattle.assm.specs.declared.status.Status.TheVariants as the
 
 module _ {D : Type 0} (meaning : Meaning D) where
   pub open_tells : {A : Type 0} (disk disk' : D) (old : Option (List ℕ)) (script : List ℕ) (P : A → Type 0) (fault : OpenFault) → IsAccepted script → Untouched meaning disk disk' → ((shape : Shape) (R : List Record) → StartsSound meaning disk shape R → IsOutside fault) → (meaning.told disk → Finds (meaning.files disk) P (Err fault)) → (fault ≡ opening.AlreadyFormatted → ⊥) → RunTells meaning disk disk' old old (status_of_open fault) script

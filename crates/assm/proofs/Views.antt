@@ -1,7 +1,6 @@
 -- Tables and views, by a walk over the records.
-use Rattle.std.proofs.Common.{◌≡◌, ℕ, ◌+◌, ◌-◌, ◌≤◌, ◌<◌, cond, Bool, ◌&&◌, eqb, List, [], ◌∷◌, ◌++◌, refl, ap, sym, ◌∙◌, arith, reverse, take, drop, length, get_or, subst, Some, None}
-use Rattle.std.proofs.lemmas.Bool.{lt-ltb, ne_eqb}
-use Rattle.std.proofs.lemmas.List.{take_all, reverse-append}
+use Rattle.std.proofs.Common.{◌≡◌, ℕ, ◌+◌, ◌-◌, ◌≤◌, ◌<◌, cond, Bool, ◌&&◌, eqb, List, [], ◌∷◌, ◌++◌, refl, ap, sym, ◌∙◌, arith, reverse, take, drop, length, get_or, subst, Some, None, lt-ltb, ne_eqb, take_all}
+use Rattle.seg_words.proofs.Lemmas.{reverse-append}
 use Rattle.std.proofs.Math.Seq.{take-add}
 use Rattle.std.specs.FinMap.{empty}
 use Rattle.assm.specs.declared.record.Record.{Record}

@@ -1,6 +1,6 @@
 -- What an opening finds in the files of a store: its records, or the first byte that is no store's.
+use Rattle.seg_words.specs.Types.{FIRST_GATE, LOG_HEAD_SIZE, Shape}
 use Rattle.std.specs.Prelude.{◌≡◌, ◌⊎◌, ℕ, ◌+◌, ◌<◌, ◌≤◌, Bool, true, false, List, [], ◌∷◌, ◌++◌, length, take, slice_index, Result, Ok, Err, Some, None}
-use Rattle.seg_base.specs.declared.shape.Shape.{Shape}
 use Rattle.disk_model.specs.Files.{Files}
 use Rattle.disk_model.specs.declared.disk.File.{File}
 use Rattle.disk_model.specs.declared.disk.File.TheVariants.{Data, Log}
@@ -50,7 +50,7 @@ pub record IsBadGroup (payload : List ℕ) (R : List Record) (at : ℕ) : Type 0
 -- ---- the groups of a log
 -- These groups, the newest first, stand from the first gate up to this one, and R are all of their records.
 abbrev pub ReadGroups : List (List ℕ) → List ℕ → ℕ → List Record → Type 0
-ReadGroups [] bytes at R = (at ≡ 63) × (R ≡ [])
+ReadGroups [] bytes at R = (at ≡ FIRST_GATE) × (R ≡ [])
 ReadGroups (payload ∷ before) bytes at R =
     (gate : ℕ) × (R0 : List Record) × ReadGroups before bytes gate R0 × (group_found bytes gate ≡ Ok (Some (record { payload = payload; next = at }))) × IsRead payload R0 R []
 
@@ -79,12 +79,12 @@ pub record IsBadRecord (bytes : List ℕ) (offset seen : ℕ) : Type 0 where
 -- ---- both files
 -- the first wrong byte of the log: of its head, of its frames, or of its records
 abbrev pub IsBadLog : List ℕ → ℕ → ℕ → Type 0
-IsBadLog bytes offset seen = (shape_found (take 64 bytes) ≡ Err (wrong offset seen)) ⊎ (Walked bytes 63 (Err (wrong offset seen)) ⊎ IsBadRecord bytes offset seen)
+IsBadLog bytes offset seen = (shape_found (take LOG_HEAD_SIZE bytes) ≡ Err (wrong offset seen)) ⊎ (Walked bytes FIRST_GATE (Err (wrong offset seen)) ⊎ IsBadRecord bytes offset seen)
 
 -- the data file ends before the blocks that the log's head states
 pub record IsShort (files : Files) : Type 0 where
   pub shape : Shape
-  pub head : shape_found (take 64 files.log_bytes) ≡ Ok shape
+  pub head : shape_found (take LOG_HEAD_SIZE files.log_bytes) ≡ Ok shape
   pub short : length files.data_bytes < data_size shape
 
 -- this is the first wrong byte of a file whose log is formatted; it is 0 where the file ends before it
@@ -96,7 +96,7 @@ IsBadFile files Data offset seen = (is_formatted files.log_bytes ≡ true) × Is
 pub record HasStore (files : Files) (R : List Record) : Type 0 where
   pub formatted : is_formatted files.log_bytes ≡ true
   pub shape : Shape
-  pub head : shape_found (take 64 files.log_bytes) ≡ Ok shape
+  pub head : shape_found (take LOG_HEAD_SIZE files.log_bytes) ≡ Ok shape
   pub long : data_size shape ≤ length files.data_bytes
   pub records : HasRecords files.log_bytes R
 

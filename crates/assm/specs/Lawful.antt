@@ -1,4 +1,5 @@
 -- Which record may follow which.
+use Rattle.seg_words.specs.Types.{LONGEST_ROW, MOST_PCTFREE, MOST_TABLES}
 use Rattle.std.specs.Prelude.{◌≡◌, ℕ, ◌+◌, ◌<◌, ◌≤◌, Bool, true, false, ◌==◌, List, [], ◌∷◌, length, Option, Some, None}
 use Rattle.assm.specs.declared.record.Record.{Record}
 use Rattle.assm.specs.declared.record.Record.TheVariants.{Table, Begin, Insert, Commit, Ended}
@@ -6,8 +7,8 @@ use Rattle.assm.specs.Redo.{commit_count, row_count, transaction_count, table_co
 
 pub record TableAllowed (obj : ℕ) (name : List ℕ) (pctfree : ℕ) (R : List Record) : Type 0 where
   pub is_new : named name R ≡ None
-  pub few : table_count R < 32
-  pub share : pctfree ≤ 50
+  pub few : table_count R < MOST_TABLES
+  pub share : pctfree ≤ MOST_PCTFREE
   pub number : obj ≡ table_count R + 1
 
 pub record BeginAllowed (txn : ℕ) (R : List Record) : Type 0 where
@@ -19,7 +20,7 @@ pub record InsertAllowed (txn obj row : ℕ) (bytes : List ℕ) (R : List Record
   pub table : is_there obj R ≡ true
   pub number : row ≡ row_count R + 1
   pub some : 1 ≤ length bytes
-  pub short : length bytes ≤ 1800
+  pub short : length bytes ≤ LONGEST_ROW
 
 pub record CommitAllowed (txn number : ℕ) (R : List Record) : Type 0 where
   pub active : active_in R ≡ Some txn

@@ -6,10 +6,10 @@ use Rattle.assm.specs.declared.entry.Outcome.{Outcome}
 use Rattle.assm.specs.declared.entry.Start.{Start}
 use Rattle.assm.specs.declared.entry.Entry.{Entry}
 use Rattle.assm.specs.declared.entry.HistoryItem.{HistoryItem}
-use Rattle.assm.specs.declared.entry.HistoryItem.TheVariants as item
 use Rattle.assm.specs.Redo.{prefix}
 use Rattle.assm.specs.Lawful.{IsLawful}
 use Rattle.assm.specs.Means.{Meets, MeetsEnd}
+use Rattle.assm.specs.declared.entry.HistoryItem.TheVariants as item
 
 abbrev pub session_of : HistoryItem → ℕ
 session_of (item.Start start) = start.session

@@ -1,6 +1,5 @@
 -- The text of a history. This engine's own.
-use Rattle.std.specs.Prelude.{ℕ, List, [], ◌∷◌, ◌++◌, length, Option, Some, None, codes}
-use Rattle.std.specs.Fmt.{decimal}
+use Rattle.std.specs.Prelude.{ℕ, List, [], ◌∷◌, ◌++◌, length, Option, Some, None, codes, decimal}
 use Rattle.assm.specs.declared.entry.RowOut.{RowOut}
 use Rattle.assm.specs.declared.entry.Outcome.{Outcome}
 use Rattle.assm.specs.declared.entry.Outcome.TheVariants.{Table, Inserted, Committed, NothingToCommit, Scan, RolledBack, Refused}

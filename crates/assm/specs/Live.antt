@@ -1,6 +1,6 @@
 -- A world between two calls on the disk.
 use Rattle.std.specs.Prelude.{ℕ}
-use Rattle.seg_base.specs.declared.shape.Shape.{Shape}
+use Rattle.seg_words.specs.Types.{Shape}
 use Rattle.disk_model.specs.Crash.{Meaning}
 use Rattle.assm.specs.declared.world.World.{World}
 use Rattle.assm.specs.Survives.{IsLive, Lasts}

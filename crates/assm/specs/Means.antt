@@ -1,17 +1,18 @@
 -- What an outcome means, by the records before the statement and those after it.
+use Rattle.seg_words.specs.Types.{MOST_TABLES}
 use Rattle.std.specs.Prelude.{◌≡◌, ℕ, ◌+◌, ◌<◌, ◌≤◌, ◌⊎◌, List, ◌∷◌, map, Some, None}
 use Rattle.std.specs.FinMap.{entries}
 use Rattle.assm.specs.declared.record.Record.{Record}
-use Rattle.assm.specs.declared.record.Record.TheVariants as made
 use Rattle.assm.specs.declared.statement.Statement.{Statement}
-use Rattle.assm.specs.declared.statement.Statement.TheVariants as asked
 use Rattle.assm.specs.declared.entry.RowOut.{RowOut}
 use Rattle.assm.specs.declared.entry.Outcome.{Outcome}
-use Rattle.assm.specs.declared.entry.Outcome.TheVariants as told
 use Rattle.assm.specs.declared.entry.Refusal.{Refusal}
 use Rattle.assm.specs.declared.entry.Refusal.TheVariants.{NoTable, TableExists, TooManyTables, TransactionOpen}
 use Rattle.assm.specs.Redo.{commit_count, row_count, transaction_count, table_count, active_in, named}
 use Rattle.assm.specs.Tables.{view}
+use Rattle.assm.specs.declared.record.Record.TheVariants as made
+use Rattle.assm.specs.declared.statement.Statement.TheVariants as asked
+use Rattle.assm.specs.declared.entry.Outcome.TheVariants as told
 
 abbrev pub row_out : ℕ × List ℕ → RowOut
 row_out e = record { row = e.0; bytes = e.1 }
@@ -23,7 +24,7 @@ Starts B t M = ((active_in B ≡ Some t) × (M ≡ B)) ⊎ ((active_in B ≡ Non
 -- `table`: the table was made
 pub record MakesTable (name : List ℕ) (pctfree : ℕ) (B E : List Record) : Type 0 where
   pub is_new : named name B ≡ None
-  pub few : table_count B < 32
+  pub few : table_count B < MOST_TABLES
   pub idle : active_in B ≡ None
   pub adds : E ≡ made.Table (table_count B + 1) name pctfree ∷ B
 
@@ -61,8 +62,8 @@ pub record TakesBack (B E : List Record) : Type 0 where
 -- why a statement is refused, in the order of the tests
 abbrev pub HasReason : Statement → Refusal → List Record → Type 0
 HasReason (asked.Table name pctfree) TableExists B = (obj : ℕ) × (named name B ≡ Some obj)
-HasReason (asked.Table name pctfree) TooManyTables B = (named name B ≡ None) × (32 ≤ table_count B)
-HasReason (asked.Table name pctfree) TransactionOpen B = (named name B ≡ None) × (table_count B < 32) × ((txn : ℕ) × (active_in B ≡ Some txn))
+HasReason (asked.Table name pctfree) TooManyTables B = (named name B ≡ None) × (MOST_TABLES ≤ table_count B)
+HasReason (asked.Table name pctfree) TransactionOpen B = (named name B ≡ None) × (table_count B < MOST_TABLES) × ((txn : ℕ) × (active_in B ≡ Some txn))
 HasReason (asked.Insert name label text) NoTable B = named name B ≡ None
 HasReason (asked.Scan name) NoTable B = named name B ≡ None
 HasReason statement refusal B = ⊥

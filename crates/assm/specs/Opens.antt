@@ -1,11 +1,11 @@
 -- Opening a sound store.
 use Rattle.std.specs.Prelude.{◌≡◌, ◌⊎◌, false, List, [], Result, Ok, Err, None}
-use Rattle.seg_base.specs.declared.shape.Shape.{Shape}
+use Rattle.seg_words.specs.Types.{Shape}
 use Rattle.disk_model.specs.Files.{Files}
 use Rattle.disk_model.specs.Crash.{Meaning, Now}
 use Rattle.log_frame.specs.Head.{is_formatted}
 use Rattle.recovery.specs.declared.fault.OpenFault.{OpenFault}
-use Rattle.recovery.specs.declared.fault.OpenFault.TheVariants.{DeviceFault, NotFormatted, BadFile, AlreadyFormatted, NoMemory}
+use Rattle.recovery.specs.declared.fault.OpenFault.TheVariants.{DeviceFault, AlreadyFormatted, NoMemory}
 use Rattle.recovery.specs.Store.{AreZero}
 use Rattle.assm.specs.declared.record.Record.{Record}
 use Rattle.assm.specs.Redo.{active_in}

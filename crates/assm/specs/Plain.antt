@@ -1,8 +1,6 @@
 -- The bytes of a plain record: its kind, then its fields, big-endian. This engine's own, for as long as the store is plain.
+use Rattle.seg_words.specs.Types.{LONGEST_ROW, Width, w16, w64, byte_len, from_be_bytes, to_be_bytes, is_name, NoMemory}
 use Rattle.std.specs.Prelude.{◌≡◌, ℕ, ◌^◌, ◌<◌, ◌≤◌, ◌==◌, nat_lt, true, if◌then◌else◌, List, [], ◌∷◌, ◌++◌, length, take, drop, Option, Some, None, Result, Ok, Err}
-use Rattle.std.specs.Int.{Width, w16, w64, byte_len, from_be_bytes, to_be_bytes}
-use Rattle.seg_base.specs.Words.{is_name}
-use Rattle.seg_base.specs.declared.failure.NoMemory.{NoMemory}
 use Rattle.assm.specs.declared.record.Record.{Record}
 use Rattle.assm.specs.declared.record.Record.TheVariants.{Table, Begin, Insert, Commit, Ended}
 use Rattle.assm.specs.Script.{◌>>=◌}
@@ -101,7 +99,7 @@ found o = Ok o
 
 -- a row has at most 1,800 bytes
 abbrev pub HasShortRow : Record → Type 0
-HasShortRow (Insert txn obj row bytes) = length bytes ≤ 1800
+HasShortRow (Insert txn obj row bytes) = length bytes ≤ LONGEST_ROW
 HasShortRow r = Unit {0}
 
 abbrev pub HaveShortRows : List Record → Type 0

@@ -8,12 +8,12 @@ use Rattle.assm.specs.declared.entry.Outcome.{Outcome}
 use Rattle.assm.specs.declared.entry.Start.{Start}
 use Rattle.assm.specs.declared.entry.Entry.{Entry}
 use Rattle.assm.specs.declared.entry.HistoryItem.{HistoryItem}
-use Rattle.assm.specs.declared.entry.HistoryItem.TheVariants as item
 use Rattle.assm.specs.Redo.{active_in, prefix}
 use Rattle.assm.specs.Lawful.{IsLawful}
 use Rattle.assm.specs.Legal.{IsLegal, under_way, last_of, entry_count}
 use Rattle.assm.specs.Lines.{text_of, entry_text}
 use Rattle.assm.specs.Spelled.{IsStatement}
+use Rattle.assm.specs.declared.entry.HistoryItem.TheVariants as item
 
 abbrev pub AreStatements : List Statement → Type 0
 AreStatements [] = Unit {0}

@@ -1,8 +1,6 @@
 -- The grammar of a script, line by line. This engine's own.
-use Rattle.std.specs.Prelude.{ℕ, ◌+◌, Bool, true, not, ◌&&◌, ◌==◌, nat_le, nat_lt, if◌then◌else◌, List, [], ◌∷◌, ◌++◌, length, Option, Some, None, Result, Ok, Err, ok_or, option_and_then, codes}
-use Rattle.std.specs.List.{list_all, list_any}
-use Rattle.std.specs.Str.{bytes_eq}
-use Rattle.seg_base.specs.Words.{is_name}
+use Rattle.seg_words.specs.Types.{LONGEST_ROW, MOST_PCTFREE, list_all, list_any, is_name}
+use Rattle.std.specs.Prelude.{ℕ, ◌+◌, Bool, true, not, ◌&&◌, ◌==◌, nat_le, nat_lt, if◌then◌else◌, List, [], ◌∷◌, ◌++◌, length, Option, Some, None, Result, Ok, Err, ok_or, option_and_then, codes, bytes_eq}
 use Rattle.assm.specs.Bytes.{cut, number_of}
 use Rattle.assm.specs.declared.statement.Statement.{Statement}
 use Rattle.assm.specs.declared.statement.Statement.TheVariants.{Table, Insert, Commit, Scan}
@@ -16,7 +14,7 @@ is_text_byte b = nat_le 32 b && not (b == 127)
 
 -- 1 to 1,800 bytes, each from 0x20 to 0xFF without 0x7F
 abbrev pub is_text : List ℕ → Bool
-is_text bytes = nat_lt 0 (length bytes) && nat_le (length bytes) 1800 && list_all is_text_byte bytes
+is_text bytes = nat_lt 0 (length bytes) && nat_le (length bytes) LONGEST_ROW && list_all is_text_byte bytes
 
 -- what follows the sign of a label
 abbrev pub label_of : List ℕ → Option (List ℕ)
@@ -27,7 +25,7 @@ label_of (b ∷ bs) = if b == 64 then Some bs else None
 abbrev pub table_of : List ℕ → Option Statement
 table_of rest = do
   after ← (cut 32 rest).1
-  pctfree ← number_of 50 after
+  pctfree ← number_of MOST_PCTFREE after
   if is_name (cut 32 rest).0 then Some (Table (cut 32 rest).0 pctfree) else None
 
 -- `insert T @K TEXT`, after the first space

@@ -1,7 +1,6 @@
 -- The one spelling of a statement.
-use Rattle.std.specs.Prelude.{◌≡◌, ℕ, ◌≤◌, true, List, ◌++◌, codes}
-use Rattle.std.specs.Fmt.{decimal}
-use Rattle.seg_base.specs.Words.{is_name}
+use Rattle.std.specs.Prelude.{◌≡◌, ℕ, ◌≤◌, true, List, ◌++◌, codes, decimal}
+use Rattle.seg_words.specs.Types.{is_name}
 use Rattle.assm.specs.declared.statement.Statement.{Statement}
 use Rattle.assm.specs.declared.statement.Statement.TheVariants.{Table, Insert, Commit, Scan}
 use Rattle.assm.specs.Script.{is_text}

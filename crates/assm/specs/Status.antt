@@ -1,20 +1,19 @@
 -- The statuses of the program. This engine's own.
-use Rattle.std.specs.Prelude.{ℕ, List, ◌++◌, codes}
-use Rattle.std.specs.Fmt.{decimal}
+use Rattle.std.specs.Prelude.{ℕ, List, ◌++◌, codes, decimal}
 use Rattle.disk_model.specs.declared.disk.File.{File}
 use Rattle.disk_model.specs.declared.disk.File.TheVariants.{Data, Log}
 use Rattle.text_port.specs.declared.whole.ReadEnd.{ReadEnd}
-use Rattle.text_port.specs.declared.whole.ReadEnd.TheVariants as read
 use Rattle.assm.specs.declared.fault.RunFault.{RunFault}
-use Rattle.assm.specs.declared.fault.RunFault.TheVariants as run
 use Rattle.recovery.specs.declared.fault.OpenFault.{OpenFault}
-use Rattle.recovery.specs.declared.fault.OpenFault.TheVariants as opening
 use Rattle.assm.specs.declared.script.ScriptFault.{ScriptFault}
 use Rattle.assm.specs.declared.script.Why.{Why}
 use Rattle.assm.specs.declared.script.Why.TheVariants.{NotAStatement}
-use Rattle.assm.specs.declared.script.ScriptFault.TheVariants as script
 use Rattle.assm.specs.declared.status.Status.{Status}
 use Rattle.assm.specs.declared.status.Status.TheVariants.{Done, BadWords, BadScript, DeviceFault, NoMemory, BadFile, NotFormatted, ReadFault, WriteFault, ScriptTooLong, AlreadyFormatted}
+use Rattle.text_port.specs.declared.whole.ReadEnd.TheVariants as read
+use Rattle.assm.specs.declared.fault.RunFault.TheVariants as run
+use Rattle.recovery.specs.declared.fault.OpenFault.TheVariants as opening
+use Rattle.assm.specs.declared.script.ScriptFault.TheVariants as script
 
 abbrev pub number_of : Status → ℕ
 number_of Done = 0

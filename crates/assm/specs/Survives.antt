@@ -1,7 +1,7 @@
 -- What survives a crash at each moment of a run. From: redo is on disk before a commit is acknowledged, Oracle Database
 -- Concepts.
 use Rattle.std.specs.Prelude.{◌≡◌, ℕ, ◌≤◌, List, [], ◌∷◌, ◌++◌, length}
-use Rattle.seg_base.specs.declared.shape.Shape.{Shape}
+use Rattle.seg_words.specs.Types.{Shape}
 use Rattle.disk_model.specs.Files.{Files}
 use Rattle.disk_model.specs.Crash.{Meaning, Now}
 use Rattle.log_frame.specs.Spelling.{IsLog}
@@ -11,11 +11,11 @@ use Rattle.assm.specs.declared.record.Record.{Record}
 use Rattle.assm.specs.declared.entry.Outcome.{Outcome}
 use Rattle.assm.specs.declared.entry.Outcome.TheVariants.{Committed}
 use Rattle.assm.specs.declared.entry.HistoryItem.{HistoryItem}
-use Rattle.assm.specs.declared.entry.HistoryItem.TheVariants as item
 use Rattle.assm.specs.Redo.{prefix, commit_count}
 use Rattle.assm.specs.Lawful.{IsLawful}
 use Rattle.assm.specs.Legal.{AreInTime}
 use Rattle.assm.specs.Plain.{spelled_all, AreFit}
+use Rattle.assm.specs.declared.entry.HistoryItem.TheVariants as item
 
 -- Groups of whole records: one after the other they lead from the records R0 to R.
 abbrev pub Holds : List (List ℕ) → List Record → List Record → Type 0

@@ -1,8 +1,7 @@
 -- What the top call promises.
-use Rattle.std.specs.Prelude.{◌≡◌, ◌⊎◌, ℕ, ◌+◌, ◌-◌, ◌/◌, ◌^◌, ◌≤◌, true, List, ◌++◌, length, Option, Ok, Err, codes}
-use Rattle.std.specs.Fmt.{decimal}
+use Rattle.seg_words.specs.Types.{OWN_BLOCKS, Shape}
+use Rattle.std.specs.Prelude.{◌≡◌, ◌⊎◌, ℕ, ◌+◌, ◌-◌, ◌/◌, ◌^◌, ◌≤◌, true, List, ◌++◌, length, Option, Ok, Err, codes, decimal}
 use Rattle.std.specs.Io.KnownBytes.{Appends}
-use Rattle.seg_base.specs.declared.shape.Shape.{Shape}
 use Rattle.disk_model.specs.Files.{Files}
 use Rattle.disk_model.specs.Crash.{Meaning, Now, Leaves, Untouched}
 use Rattle.text_port.specs.Whole.{AppendsPrefix, WereAll}
@@ -106,7 +105,7 @@ module _ {D : Type 0} (meaning : Meaning D) (disk disk' : D) (old new : Option (
 
 -- the line of a store that was made: its shape, and the number of whole extents
 abbrev pub shape_text : Shape → List ℕ
-shape_text shape = codes "formatted " ++ decimal shape.blocks ++ codes " " ++ decimal shape.extent ++ codes " " ++ decimal shape.undo ++ codes " extents " ++ decimal ((shape.blocks - (37 + shape.undo)) / shape.extent) ++ codes "\n"
+shape_text shape = codes "formatted " ++ decimal shape.blocks ++ codes " " ++ decimal shape.extent ++ codes " " ++ decimal shape.undo ++ codes " extents " ++ decimal ((shape.blocks - (OWN_BLOCKS + shape.undo)) / shape.extent) ++ codes "\n"
 
 module _ {D : Type 0} (meaning : Meaning D) (disk disk' : D) (old new : Option (List ℕ)) (shape : Shape) where
   -- a crash at a moment of the call leaves a log that isn't formatted, or the whole empty store

@@ -1,8 +1,6 @@
 -- The words of the command line. This engine's own.
-use Rattle.std.specs.Prelude.{◌≡◌, ℕ, true, if◌then◌else◌, List, [], ◌∷◌, Option, Some, None, codes}
-use Rattle.std.specs.Str.{bytes_eq}
-use Rattle.seg_base.specs.declared.shape.Shape.{Shape}
-use Rattle.seg_base.specs.Places.{is_shape}
+use Rattle.seg_words.specs.Types.{MOST_BLOCKS, MOST_EXTENT_BLOCKS, MOST_UNDO_BLOCKS, Shape, is_shape}
+use Rattle.std.specs.Prelude.{◌≡◌, ℕ, true, if◌then◌else◌, List, [], ◌∷◌, Option, Some, None, codes, bytes_eq}
 use Rattle.assm.specs.declared.words.Command.{Command}
 use Rattle.assm.specs.declared.words.Command.TheVariants.{Format, Run}
 use Rattle.assm.specs.Bytes.{number_of}
@@ -11,9 +9,9 @@ use Rattle.assm.specs.Script.{◌>>=◌}
 -- the shape that three numbers state, where it is within the limits
 abbrev pub shape_in : List ℕ → List ℕ → List ℕ → Option Shape
 shape_in b e u = do
-  blocks ← number_of 16384 b
-  extent ← number_of 64 e
-  undo ← number_of 1024 u
+  blocks ← number_of MOST_BLOCKS b
+  extent ← number_of MOST_EXTENT_BLOCKS e
+  undo ← number_of MOST_UNDO_BLOCKS u
   if is_shape (record { blocks = blocks; extent = extent; undo = undo }) then Some (record { blocks = blocks; extent = extent; undo = undo }) else None
 
 abbrev pub format_in : Option Shape → Option Command

@@ -2,21 +2,21 @@
 use Rattle.std.specs.Prelude.{◌≡◌, ℕ, List, [], ◌∷◌, Some, None, Ok, codes}
 use Rattle.std.specs.FinMap.{entries}
 use Rattle.assm.specs.declared.record.Record.{Record}
-use Rattle.assm.specs.declared.record.Record.TheVariants as made
 use Rattle.assm.specs.declared.statement.Statement.{Statement}
-use Rattle.assm.specs.declared.statement.Statement.TheVariants as asked
 use Rattle.assm.specs.declared.entry.RowOut.{RowOut}
 use Rattle.assm.specs.declared.entry.Outcome.{Outcome}
-use Rattle.assm.specs.declared.entry.Outcome.TheVariants as told
 use Rattle.assm.specs.declared.entry.Refusal.TheVariants.{NoTable}
 use Rattle.assm.specs.declared.entry.HistoryItem.{HistoryItem}
-use Rattle.assm.specs.declared.entry.HistoryItem.TheVariants as item
 use Rattle.assm.specs.Bytes.{lines}
 use Rattle.assm.specs.Script.{script_of}
 use Rattle.assm.specs.Redo.{prefix}
 use Rattle.assm.specs.Tables.{table_at, view}
 use Rattle.assm.specs.Lines.{text_of}
 use Rattle.assm.specs.Legal.{IsLegal}
+use Rattle.assm.specs.declared.record.Record.TheVariants as made
+use Rattle.assm.specs.declared.statement.Statement.TheVariants as asked
+use Rattle.assm.specs.declared.entry.Outcome.TheVariants as told
+use Rattle.assm.specs.declared.entry.HistoryItem.TheVariants as item
 
 abbrev pub statements : List Statement
 statements = asked.Table (codes "t") 10 ∷ asked.Insert (codes "t") (codes "a") (codes "hello") ∷ asked.Commit ∷ asked.Scan (codes "t") ∷ asked.Scan (codes "u") ∷ []

@@ -11,10 +11,8 @@ ghost use Rattle.assm.specs.Survives.{commit_told};
 use crate::entry::{Outcome, Refusal};
 use crate::statement::Statement;
 use crate::store::PlainStore;
-use seg_base::{Name, NoMemory, Text, TxnId};
+use seg_base::{MOST_PCTFREE, MOST_TABLES, Name, NoMemory, Text, TxnId};
 use std::alloc::Global;
-
-const MOST_TABLES: usize = 32;
 
 #[tactic(auto, using(crate::proofs::Acts::grows_none, crate::proofs::Acts::grows_one))]
 fn make_table(
@@ -23,7 +21,7 @@ fn make_table(
     name: &Name,
     pctfree: u8,
 ) -> Result<Outcome, NoMemory>
-    requires { pctfree ≤ 50 }
+    requires { pctfree ≤ MOST_PCTFREE }
     ensures meets { IfOk result (λ outcome. Meets (Statement.Table name.now pctfree) outcome store.old store.new) }
     ensures grows { Grows store.old store.new }
     ensures lawful { IsLawful store.new }
@@ -31,7 +29,7 @@ fn make_table(
     if store.table(name).is_some() {
         return Ok(Outcome::Refused(Refusal::TableExists));
     }
-    if store.table_count() >= MOST_TABLES {
+    if store.table_count() >= MOST_TABLES as usize {
         return Ok(Outcome::Refused(Refusal::TooManyTables));
     }
     if store.active().is_some() {

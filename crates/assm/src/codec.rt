@@ -1,13 +1,12 @@
 // The bytes of plain records.
 ghost use Rattle.std.specs.Prelude.{◌≡◌, ◌^◌, ◌<◌, ◌≤◌, ◌++◌, ◌∷◌, [], length, true, reverse, IfOk, OnOk, OnSome};
-ghost use Rattle.std.specs.Int.{w16, w64, to_be_bytes};
-ghost use Rattle.seg_base.specs.Words.{is_name};
+ghost use Rattle.seg_words.specs.Types.{w16, w64, to_be_bytes, is_name};
 ghost use Rattle.assm.specs.Plain.{spelled, spelled_all, IsFit, AreFit, table_in, begin_in, insert_in, commit_in, ended_in, record_in, HasShortRow, HaveShortRows, Reads, found};
 
 use crate::bytes::put;
 use crate::input::Input;
 use crate::record::Record;
-use seg_base::{Name, NoMemory, Obj, RowNo, Scn, Text, TxnId, put_u16, put_u64};
+use seg_base::{LONGEST_ROW, Name, NoMemory, Obj, RowNo, Scn, Text, TxnId, put_u16, put_u64};
 use std::alloc::Global;
 
 fn put_byte(out: &mut Vec<u8>, byte: u8) -> Result<(), NoMemory>
@@ -49,7 +48,7 @@ fn put_row_head(out: &mut Vec<u8>, txn: TxnId, obj: Obj, row: RowNo) -> Result<(
 }
 
 fn put_row(out: &mut Vec<u8>, bytes: &Text) -> Result<(), NoMemory>
-    requires { length bytes.now ≤ 1800 }
+    requires { length bytes.now ≤ LONGEST_ROW }
     ensures { OnOk result (out.new.items ≡ out.old.items ++ (to_be_bytes w16 (length bytes.now) ++ bytes.now)) }
 {
     put_u16(out, bytes.len() as u16)?;
@@ -63,7 +62,7 @@ fn put_insert(
     row: RowNo,
     bytes: &Text,
 ) -> Result<(), NoMemory>
-    requires { length bytes.now ≤ 1800 }
+    requires { length bytes.now ≤ LONGEST_ROW }
     ensures ok { OnOk result (out.new.items ≡ out.old.items ++ 10 ∷ (to_be_bytes w64 txn ++ (obj ∷ (to_be_bytes w64 row ++ (to_be_bytes w16 (length bytes.now) ++ bytes.now))))) }
     ensures fit { (txn < 2 ^ 64) × (row < 2 ^ 64) }
 {

@@ -1,7 +1,6 @@
 // The statements of a script as far as it was read.
-ghost use Rattle.std.specs.Prelude.{◌≡◌, [], ◌∷◌, ◌++◌, not, true, OnErr, OnOk};
-ghost use Rattle.std.specs.List.{list_all, list_any};
-ghost use Rattle.std.specs.Str.{bytes_eq};
+ghost use Rattle.std.specs.Prelude.{◌≡◌, [], ◌∷◌, ◌++◌, not, true, OnErr, OnOk, bytes_eq};
+ghost use Rattle.seg_words.specs.Types.{list_all, list_any};
 ghost use Rattle.assm.specs.Script.{labels_of, may_follow};
 ghost use Rattle.assm.specs.Spelled.{IsStatement};
 ghost use Rattle.assm.specs.Runs.{AreStatements};

@@ -1,6 +1,6 @@
 // Making an empty store.
 ghost use Rattle.std.specs.Prelude.{◌≡◌, false, true, IfErr, IsErrOf, OnOk};
-ghost use Rattle.seg_base.specs.Places.{is_shape};
+ghost use Rattle.seg_words.specs.Types.{is_shape};
 ghost use Rattle.disk_model.specs.Crash.{Causes, Leaves, Untouched};
 ghost use Rattle.log_frame.specs.Head.{is_formatted};
 ghost use Rattle.assm.specs.Opens.{StartsBlank, BlankOrEmpty, IsMade, IsFormatFault};

@@ -1,6 +1,6 @@
 // Bytes that are read from left to right.
 ghost use Rattle.std.specs.Prelude.{◌≡◌, ◌<◌, ◌≤◌, Some, None, length, MatchOption, OnSome};
-ghost use Rattle.std.specs.Int.{w16, w64};
+ghost use Rattle.seg_words.specs.Types.{w16, w64};
 ghost use Rattle.assm.specs.Plain.{byte, number, text};
 
 use std::marker::Model;

@@ -1,7 +1,6 @@
 // The labels of a script.
-ghost use Rattle.std.specs.Prelude.{◌≡◌, [], ◌∷◌, ◌++◌, false, OnErr, OnOk};
-ghost use Rattle.std.specs.List.{list_any};
-ghost use Rattle.std.specs.Str.{bytes_eq};
+ghost use Rattle.std.specs.Prelude.{◌≡◌, [], ◌∷◌, ◌++◌, false, OnErr, OnOk, bytes_eq};
+ghost use Rattle.seg_words.specs.Types.{list_any};
 
 use indexmap::IndexSet;
 use seg_base::NoMemory;

@@ -1,6 +1,5 @@
 // The text of an entry. Every printed line is made here.
-ghost use Rattle.std.specs.Prelude.{◌≡◌, ◌++◌, IfOk, OnOk, codes};
-ghost use Rattle.std.specs.Fmt.{decimal};
+ghost use Rattle.std.specs.Prelude.{◌≡◌, ◌++◌, IfOk, OnOk, codes, decimal};
 ghost use Rattle.assm.specs.Lines.{row_line, row_lines, refusal_text, scan_text, outcome_text, ordinal_text, entry_text};
 
 use crate::bytes::{put, put_number};

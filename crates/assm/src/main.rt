@@ -88,7 +88,10 @@ fn main(rt: HostRuntime) -> ExitCode {
         let _ = eprintln!(rt; "{line}");
     }
     if let Some(cause) = cause {
-        let _ = eprintln!(rt; "{cause}");
+        let _ = match cause.line(rt.alloc()) {
+            Ok(line) => eprintln!(rt; "{line}"),
+            Err(_) => eprintln!(rt; "{cause}"),
+        };
     }
     ExitCode::from(status.number())
 }

@@ -1,6 +1,6 @@
 // Opening a store: its log is read, and what is active is taken back.
 ghost use Rattle.std.specs.Prelude.{◌≡◌, ◌-◌, ◌<◌, ◌≤◌, ℕ, List, [], true, length, slice_index, OnOk, IfOk, IfErr, IsErrOf};
-ghost use Rattle.seg_base.specs.declared.shape.Shape.{Shape as TheShape};
+ghost use Rattle.seg_words.specs.Types.{Shape as TheShape};
 ghost use Rattle.disk_model.specs.Crash.{Causes, Untouched};
 ghost use Rattle.disk_model.specs.declared.disk.File.TheVariants.{Log};
 ghost use Rattle.log_frame.specs.Head.{is_formatted};
@@ -18,11 +18,8 @@ use crate::world::World;
 use disk_model::{Disk, File};
 use log_frame::LogFile;
 use recovery::{OpenFault, open_log, read_head};
-use seg_base::Newest;
+use seg_base::{FIRST_GATE, Newest};
 use std::alloc::Global;
-
-/// The place of the first group's gate.
-const FIRST_GATE: u64 = 63;
 
 /// What is wrong with a group, whose payload ends before the next gate.
 fn bad_group(payload: &[u8], next: u64, fault: GroupFault) -> OpenFault

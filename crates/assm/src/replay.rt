@@ -11,7 +11,9 @@ use crate::codec::read_record;
 use crate::input::Input;
 use crate::record::Record;
 use crate::store::PlainStore;
-use seg_base::{Name, NoMemory, Obj, RowNo, Scn, Text, TxnId};
+use seg_base::{
+    LONGEST_ROW, MOST_PCTFREE, MOST_TABLES, Name, NoMemory, Obj, RowNo, Scn, Text, TxnId,
+};
 use std::alloc::Global;
 
 /// Why the records of a group were not added.
@@ -34,7 +36,7 @@ fn replay_table(
         return Ok(false);
     }
     let count = store.table_count();
-    if count >= 32 || pctfree > 50 {
+    if count >= MOST_TABLES as usize || pctfree > MOST_PCTFREE {
         return Ok(false);
     }
     if obj.0 as usize != count + 1 {
@@ -84,7 +86,7 @@ fn replay_insert(
     if row.0 == 0 || row.0 - 1 != store.row_count() {
         return Ok(false);
     }
-    if bytes.len() == 0 || bytes.len() > 1800 {
+    if bytes.len() == 0 || bytes.len() > LONGEST_ROW {
         return Ok(false);
     }
     store.insert(txn, obj, bytes)?;

@@ -1,8 +1,7 @@
 // The run of a whole script.
 ghost use Rattle.std.specs.Prelude.{◌≡◌, ◌<◌, ◌≤◌, ◌^◌, ℕ, [], length, OnOk, OnErr, IfErr, IsErrOf};
 ghost use Rattle.std.specs.Io.KnownBytes.{Appends};
-ghost use Rattle.seg_base.specs.declared.shape.Shape.{Shape};
-ghost use Rattle.seg_base.specs.Faults.{Rose};
+ghost use Rattle.seg_words.specs.Types.{Shape, Rose};
 ghost use Rattle.disk_model.specs.Crash.{Causes};
 ghost use Rattle.assm.specs.Lawful.{IsLawful};
 ghost use Rattle.assm.specs.Lines.{text_of};

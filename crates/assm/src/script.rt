@@ -1,18 +1,18 @@
 // From a script's bytes to its statements.
 ghost use Rattle.std.specs.Prelude.{◌≡◌, ◌+◌, ◌≤◌, ◌^◌, IfOk, length, MatchBool, Some, None, option_copied, List, ℕ};
-ghost use Rattle.std.specs.List.{list_all};
-ghost use Rattle.assm.specs.declared.script.ScriptFault.TheVariants as bad;
+ghost use Rattle.seg_words.specs.Types.{list_all};
 ghost use Rattle.assm.specs.Bytes.{lines};
 ghost use Rattle.assm.specs.Script.{table_of, is_text, insert_of, scan_of, statement_of, may_follow, script_of, label_of, is_text_byte, more};
 ghost use Rattle.assm.specs.Parsed.{Parsed};
 ghost use Rattle.assm.specs.Status.{why_text};
 ghost use Rattle.assm.specs.Runs.{AreStatements};
 ghost use Rattle.assm.specs.Spelled.{spelling, IsStatement};
+ghost use Rattle.assm.specs.declared.script.ScriptFault.TheVariants as bad;
 
 use crate::bytes::{cut, first_line, number};
 use crate::draft::Draft;
 use crate::statement::Statement;
-use seg_base::{Name, NoMemory, Text};
+use seg_base::{LONGEST_ROW, MOST_PCTFREE, Name, NoMemory, Text};
 use std::alloc::Global;
 use thiserror::Error;
 
@@ -56,7 +56,7 @@ fn table_of(alloc: Global, rest: &[u8]) -> Result<Option<Statement>, NoMemory>
     let Some(after) = after else {
         return Ok(None);
     };
-    let Some(pctfree) = number(after, 50) else {
+    let Some(pctfree) = number(after, MOST_PCTFREE as u64) else {
         return Ok(None);
     };
     let Some(name) = Name::copy(alloc, name)? else {
@@ -83,7 +83,7 @@ fn are_text_bytes(bytes: &[u8]) -> bool
 fn is_text(bytes: &[u8]) -> bool
     ensures { result ≡ is_text bytes.now }
 {
-    if bytes.is_empty() || bytes.len() > 1800 {
+    if bytes.is_empty() || bytes.len() > LONGEST_ROW {
         return false;
     }
     are_text_bytes(bytes)

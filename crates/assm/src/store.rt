@@ -1,16 +1,19 @@
 // The plain store of this stage: the redo list in memory.
-ghost use Rattle.std.specs.List.{list_any};
+ghost use Rattle.seg_words.specs.Types.{list_any};
 ghost use Rattle.std.specs.Prelude.{◌≡◌, ◌==◌, [], ◌∷◌, ◌+◌, ◌<◌, ◌≤◌, ◌^◌, Some, None, true, length, reverse, OnErr, OnOk, IfOk};
-ghost use Rattle.assm.specs.declared.record.Record.TheVariants as made;
 ghost use Rattle.assm.specs.Redo.{commit_count, row_count, transaction_count, table_count, active_in, named, find_named, is_there};
 ghost use Rattle.assm.specs.Lawful.{IsLawful};
 ghost use Rattle.assm.specs.Tables.{view};
 ghost use Rattle.assm.specs.Plain.{IsSpelledSince};
+ghost use Rattle.assm.specs.declared.record.Record.TheVariants as made;
 
 use crate::codec::record_bytes;
 use crate::record::{CatalogueRow, Record};
 use crate::rows::{Rows, view};
-use seg_base::{Lsn, Name, Newest, NoMemory, Obj, RowNo, Scn, Text, TxnId};
+use seg_base::{
+    LONGEST_ROW, Lsn, MOST_PCTFREE, MOST_TABLES, Name, Newest, NoMemory, Obj, RowNo, Scn, Text,
+    TxnId,
+};
 use std::alloc::Global;
 use std::marker::Model;
 
@@ -150,8 +153,8 @@ impl PlainStore {
     #[tactic(auto, using(crate::proofs::Stores::count_reversed, crate::proofs::Stores::row_reversed))]
     pub fn add_table(&mut self, alloc: Global, name: &Name, pctfree: u8) -> Result<(), NoMemory>
         requires is_new { named name.now self.old ≡ None }
-        requires few { table_count self.old < 32 }
-        requires share { pctfree ≤ 50 }
+        requires few { table_count self.old < MOST_TABLES }
+        requires share { pctfree ≤ MOST_PCTFREE }
         ensures ok { OnOk result (self.new ≡ made.Table (table_count self.old + 1) name.now pctfree ∷ self.old) }
         ensures err { OnErr result (self.new ≡ self.old) }
         ensures lawful { IsLawful self.new }
@@ -194,7 +197,7 @@ impl PlainStore {
         requires active { active_in self.old ≡ Some txn }
         requires table { is_there obj self.old ≡ true }
         requires some { 1 ≤ length bytes }
-        requires short { length bytes ≤ 1800 }
+        requires short { length bytes ≤ LONGEST_ROW }
         requires room { length self.old < 2 ^ 63 + 1 }
         ensures row { IfOk result (λ row. row ≡ row_count self.old + 1) }
         ensures ok { OnOk result (self.new ≡ made.Insert txn obj (row_count self.old + 1) bytes ∷ self.old) }

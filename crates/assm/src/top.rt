@@ -1,16 +1,14 @@
 // The top call.
 ghost use Rattle.std.specs.Prelude.{◌≡◌, ◌↔◌, ◌+◌, ◌-◌, ◌/◌, ◌++◌, ◌≤◌, ◌^◌, ℕ, Some, None, length, map, string_bytes, true, IfOk};
-ghost use Rattle.seg_base.specs.declared.shape.Shape.{Shape as TheShape};
-ghost use Rattle.seg_base.specs.Places.{is_shape};
+ghost use Rattle.seg_words.specs.Types.{Shape as TheShape, is_shape, Rose};
 ghost use Rattle.text_port.specs.Whole.{WasLonger};
 ghost use Rattle.assm.specs.declared.script.Why.{Why};
-ghost use Rattle.assm.specs.declared.words.Command.TheVariants as asked;
 ghost use Rattle.assm.specs.Words.{command_in};
-ghost use Rattle.seg_base.specs.Faults.{Rose};
 ghost use Rattle.disk_model.specs.Crash.{Causes, Untouched};
 ghost use Rattle.log_frame.specs.Head.{is_formatted};
 ghost use Rattle.assm.specs.Heads.{HeadOfRun, HeadOfFormat};
 ghost use Rattle.assm.specs.Top.{RunTells, ScriptTells, FormatTells, HadScript, IsRefused, shape_text};
+ghost use Rattle.assm.specs.declared.words.Command.TheVariants as asked;
 
 use crate::bytes::{put, put_number};
 use crate::format::format;
@@ -20,7 +18,7 @@ use crate::script::parse;
 use crate::status::Status;
 use crate::words::{Command, command_in};
 use disk_model::Disk;
-use seg_base::{Gate, NoMemory, Shape};
+use seg_base::{Gate, NoMemory, OWN_BLOCKS, Shape};
 use std::alloc::Global;
 use std::sync::Wait;
 use std::thread::Threads;
@@ -93,9 +91,9 @@ fn shape_line(alloc: Global, shape: &Shape) -> Result<Vec<u8>, NoMemory>
 #[tactic(auto, using(std::proofs::lemmas::Bool::Decides::nat_tests))]
 fn extents(shape: &Shape) -> u32
     requires { is_shape shape.now ≡ true }
-    ensures { result ≡ (shape.now.blocks - (37 + shape.now.undo)) / shape.now.extent }
+    ensures { result ≡ (shape.now.blocks - (OWN_BLOCKS + shape.now.undo)) / shape.now.extent }
 {
-    (shape.blocks - (37 + shape.undo)) / shape.extent
+    (shape.blocks - (OWN_BLOCKS + shape.undo)) / shape.extent
 }
 
 /// Makes a store, and prints its line.

@@ -1,10 +1,10 @@
 // The words of the command line.
 ghost use Rattle.std.specs.Prelude.{◌≡◌, IfSome, true, map, string_bytes};
-ghost use Rattle.seg_base.specs.Places.{is_shape};
+ghost use Rattle.seg_words.specs.Types.{is_shape};
 ghost use Rattle.assm.specs.Words.{command_in, shape_in, IsWithin};
 
 use crate::bytes::number;
-use seg_base::Shape;
+use seg_base::{MOST_BLOCKS, MOST_EXTENT_BLOCKS, MOST_UNDO_BLOCKS, Shape};
 
 /// What the words ask for.
 #[derive(Clone, Copy, Debug, Drop)]
@@ -18,9 +18,9 @@ fn shape_in(blocks: &[u8], extent: &[u8], undo: &[u8]) -> Option<Shape>
     ensures value { result ≡ shape_in blocks.now extent.now undo.now }
     ensures within { IfSome result (λ shape. is_shape shape ≡ true) }
 {
-    let blocks = number(blocks, 16_384)? as u32;
-    let extent = number(extent, 64)? as u32;
-    let undo = number(undo, 1024)? as u32;
+    let blocks = number(blocks, MOST_BLOCKS as u64)? as u32;
+    let extent = number(extent, MOST_EXTENT_BLOCKS as u64)? as u32;
+    let undo = number(undo, MOST_UNDO_BLOCKS as u64)? as u32;
     let shape = Shape {
         blocks,
         extent,

@@ -1,11 +1,9 @@
 // The run of one session over the plain store and its log.
 ghost use Rattle.std.specs.Prelude.{◌≡◌, ◌∷◌, ◌<◌, ◌≤◌, ◌^◌, ◌⊎◌, ℕ, [], Some, None, length, OnOk, OnErr, IfOk, IfErr, IsErrOf};
 ghost use Rattle.std.specs.Io.KnownBytes.{Appends};
-ghost use Rattle.seg_base.specs.declared.shape.Shape.{Shape};
-ghost use Rattle.seg_base.specs.Faults.{Rose};
+ghost use Rattle.seg_words.specs.Types.{Shape, Rose};
 ghost use Rattle.text_port.specs.Whole.{AppendsPrefix};
 ghost use Rattle.disk_model.specs.Crash.{Causes};
-ghost use Rattle.assm.specs.declared.entry.HistoryItem.TheVariants as item;
 ghost use Rattle.assm.specs.Redo.{commit_count, prefix};
 ghost use Rattle.assm.specs.Lawful.{IsLawful};
 ghost use Rattle.assm.specs.Lines.{entry_text};
@@ -14,6 +12,7 @@ ghost use Rattle.assm.specs.Means.{Meets, MeetsEnd};
 ghost use Rattle.assm.specs.Runs.{start_at, entry_at, Enters, Grows, Steps, AppendsNewest, CutsNewest, Stops, IsUncut, NothingEnds};
 ghost use Rattle.assm.specs.Spelled.{IsStatement};
 ghost use Rattle.assm.specs.Survives.{commit_told};
+ghost use Rattle.assm.specs.declared.entry.HistoryItem.TheVariants as item;
 
 use crate::act::act;
 use crate::entry::{Entry, HistoryItem, Outcome, Start};

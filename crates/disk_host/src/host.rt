@@ -1,6 +1,6 @@
 // A disk over two named files.
 ghost use Rattle.std.specs.Prelude.{◌≡◌, ◌+◌, ◌-◌, ◌^◌, ◌<◌, ◌≤◌, length, min, IsErr, IfOk, OnErr};
-ghost use Rattle.seg_base.specs.Faults.{Rose, HasCause};
+ghost use Rattle.seg_words.specs.Types.{Rose, HasCause};
 ghost use Rattle.disk_host.specs.Host.{StartsAtZero};
 
 use crate::StoreFile;

@@ -57,7 +57,7 @@ impl<'a, F: StoreFile + Drop> NamedFile<'a, F> {
     pub fn settle(&self) -> Result<(), Cause<'a>> {
         match &self.file {
             None => Ok(()),
-            Some(file) => told(self.name, Call::Sync, file.settle()),
+            Some(file) => told(self.name, Call::Sync, file.sync_all()),
         }
     }
 

@@ -1,5 +1,6 @@
 // The first failure of a file or a stream.
-use std::{fmt, io, str};
+use std::alloc::{AllocError, Global};
+use std::{fmt, io};
 
 /// A call on a file or a stream.
 #[derive(Clone, Copy, Debug, PartialEq, Eq)]
@@ -14,8 +15,8 @@ pub enum Call {
     SyncFolder,
 }
 
-/// A call that failed: on which file or stream, which call, and what the system said. Shown as
-/// `assm.log: write: No space left on device`.
+/// A call that failed: on which file or stream, which call, and what the system said. Its line is
+/// `assm.log: write: No space left on device`; shown, which takes no memory, it also has the system's number of the error.
 #[derive(Clone, Copy, Debug)]
 pub struct Cause<'a> {
     pub name: &'a str,
@@ -38,24 +39,27 @@ impl fmt::Display for Call {
     }
 }
 
-// What the system says of an error number, without the number; std's own words for any other error.
-fn write_words<W: fmt::Write>(f: &mut fmt::Formatter<W>, error: &io::Error) -> fmt::Result {
-    let Some(code) = error.raw_os_error() else {
-        return write!(f, "{error}");
-    };
-    let mut buf = [0u8; 128];
-    let len = os::error_text(code, &mut buf);
-    match str::from_utf8(&buf[..len]) {
-        Ok(words) => f.write_str(words),
-        Err(_) => write!(f, "error {code}"),
-    }
-}
+// What the library writes behind the words of an error that the system numbers.
+const NUMBER: &str = " (os error ";
 
 impl fmt::Display for Cause<'_> {
     fn fmt<W: fmt::Write>(&self, f: &mut fmt::Formatter<W>) -> fmt::Result {
         let name = self.name;
         let call = self.call;
-        write!(f, "{name}: {call}: ")?;
-        write_words(f, &self.error)
+        let error = self.error;
+        write!(f, "{name}: {call}: {error}")
+    }
+}
+
+impl Cause<'_> {
+    /// Its line, without the number that the system gives the error.
+    pub fn line(&self, alloc: Global) -> Result<String, AllocError> {
+        let mut text = self.to_string(alloc)?;
+        let words = match text.as_str().split_once(NUMBER) {
+            Some((words, _)) => words.len(),
+            None => return Ok(text),
+        };
+        text.truncate(words);
+        Ok(text)
     }
 }

@@ -29,7 +29,7 @@ fn a_failure_names_its_file_its_call_and_its_words(rt: HostRuntime) -> Result<()
     for (name, call, code, text) in cases {
         let error = io::Error::from_raw_os_error(code);
         let cause = Cause { name, call, error };
-        assert_eq!(rt; cause.to_string(rt.alloc())?.as_str(), text);
+        assert_eq!(rt; cause.line(rt.alloc())?.as_str(), text);
     }
     let error = io::Error::other("not a regular file");
     let cause = Cause {
@@ -38,7 +38,7 @@ fn a_failure_names_its_file_its_call_and_its_words(rt: HostRuntime) -> Result<()
         error,
     };
     assert_eq!(rt;
-        cause.to_string(rt.alloc())?.as_str(),
+        cause.line(rt.alloc())?.as_str(),
         "assm.log: open: not a regular file"
     );
     Ok(())

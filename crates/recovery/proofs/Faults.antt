@@ -1,12 +1,11 @@
 -- A fault of the log, handed on.
 use Rattle.std.proofs.Common.{◌≡◌, ℕ, Err}
 use Rattle.disk_model.specs.Files.{Files}
-use Rattle.seg_base.specs.declared.shape.Shape.{Shape}
 use Rattle.log_frame.specs.Found.{IsHeadFound, IsOpening, Answers as AnswersFrame}
 use Rattle.log_frame.specs.declared.fault.FrameFault.{FrameFault}
-use Rattle.log_frame.specs.declared.fault.FrameFault.TheVariants as frame
 use Rattle.recovery.specs.declared.fault.OpenFault.TheVariants.{AlreadyFormatted}
 use Rattle.recovery.specs.Store.{IsShapeFound, IsLogOpened, Answers, fault_of}
+use Rattle.log_frame.specs.declared.fault.FrameFault.TheVariants as frame
 
 pub head_refused : (files : Files) (fault : FrameFault) → IsHeadFound files.log_bytes (Err fault) → IsShapeFound files (Err (fault_of fault))
 head_refused files frame.DeviceFault h = tt

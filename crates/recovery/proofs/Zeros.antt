@@ -1,6 +1,6 @@
 -- Zeros that are written in pieces, over plain disks.
 use Rattle.std.proofs.Common.{◌≡◌, ℕ, ◌+◌, ◌-◌, ◌≤◌, List, [], ◌++◌, length, take, replicate, sym, ◌∙◌, ap, subst, arith}
-use Rattle.std.proofs.lemmas.List.{length-replicate, replicate-append-replicate, take-replicate}
+use Rattle.seg_words.proofs.Lemmas.{length-replicate, replicate-append-replicate, take-replicate}
 use Rattle.disk_model.specs.Files.{Files, put, written, Torn, TornFile}
 use Rattle.disk_model.specs.Crash.{Meaning, Now, Elapses}
 use Rattle.disk_model.specs.Only.{IsSettled}

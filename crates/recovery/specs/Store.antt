@@ -1,6 +1,6 @@
 -- A store that was just made.
+use Rattle.seg_words.specs.Types.{BLOCK_SIZE, LOG_HEAD_SIZE, Shape}
 use Rattle.std.specs.Prelude.{◌≡◌, ◌⊎◌, ℕ, ◌*◌, ◌<◌, ◌≤◌, true, false, List, [], length, take, replicate, Result, Ok, Err}
-use Rattle.seg_base.specs.declared.shape.Shape.{Shape}
 use Rattle.disk_model.specs.Files.{Files}
 use Rattle.disk_model.specs.Crash.{Meaning, Now}
 use Rattle.disk_model.specs.declared.disk.File.TheVariants.{Data, Log}
@@ -8,9 +8,9 @@ use Rattle.log_frame.specs.Head.{is_formatted, shape_found}
 use Rattle.log_frame.specs.Found.{wrong, Walked}
 use Rattle.log_frame.specs.Spelling.{IsLog}
 use Rattle.log_frame.specs.declared.fault.FrameFault.{FrameFault}
-use Rattle.log_frame.specs.declared.fault.FrameFault.TheVariants as frame
 use Rattle.recovery.specs.declared.fault.OpenFault.{OpenFault}
 use Rattle.recovery.specs.declared.fault.OpenFault.TheVariants.{DeviceFault, NotFormatted, BadFile, AlreadyFormatted, NoMemory}
+use Rattle.log_frame.specs.declared.fault.FrameFault.TheVariants as frame
 
 -- the same fault of a log
 abbrev pub fault_of : FrameFault → OpenFault
@@ -21,7 +21,7 @@ fault_of frame.NoMemory = NoMemory
 
 -- the bytes of a store's blocks
 abbrev pub data_size : Shape → ℕ
-data_size shape = shape.blocks * 4096
+data_size shape = shape.blocks * BLOCK_SIZE
 
 -- the blocks are zero
 abbrev pub AreZero : Shape → List ℕ → Type 0
@@ -65,12 +65,12 @@ pub record IsStore (shape : Shape) (groups : List (List ℕ)) (files : Files) : 
 
 -- what the head of the log and the length of the data file say
 abbrev pub IsShapeFound : Files → Result Shape OpenFault → Type 0
-IsShapeFound files (Ok shape) = (is_formatted files.log_bytes ≡ true) × (shape_found (take 64 files.log_bytes) ≡ Ok shape) × (data_size shape ≤ length files.data_bytes)
+IsShapeFound files (Ok shape) = (is_formatted files.log_bytes ≡ true) × (shape_found (take LOG_HEAD_SIZE files.log_bytes) ≡ Ok shape) × (data_size shape ≤ length files.data_bytes)
 IsShapeFound files (Err DeviceFault) = Unit {0}
 IsShapeFound files (Err NotFormatted) = is_formatted files.log_bytes ≡ false
-IsShapeFound files (Err (BadFile Log offset seen)) = (is_formatted files.log_bytes ≡ true) × (shape_found (take 64 files.log_bytes) ≡ Err (wrong offset seen))
+IsShapeFound files (Err (BadFile Log offset seen)) = (is_formatted files.log_bytes ≡ true) × (shape_found (take LOG_HEAD_SIZE files.log_bytes) ≡ Err (wrong offset seen))
 IsShapeFound files (Err (BadFile Data offset seen)) =
-    (is_formatted files.log_bytes ≡ true) × ((shape : Shape) × (shape_found (take 64 files.log_bytes) ≡ Ok shape) × (length files.data_bytes < data_size shape))
+    (is_formatted files.log_bytes ≡ true) × ((shape : Shape) × (shape_found (take LOG_HEAD_SIZE files.log_bytes) ≡ Ok shape) × (length files.data_bytes < data_size shape))
     × (offset ≡ length files.data_bytes) × (seen ≡ 0)
 IsShapeFound files (Err AlreadyFormatted) = ⊥
 IsShapeFound files (Err NoMemory) = ⊥

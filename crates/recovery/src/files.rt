@@ -1,6 +1,6 @@
 // The two files of a store as they are opened.
 ghost use Rattle.std.specs.Prelude.{◌≡◌, ◌+◌, ◌++◌, ℕ, List, length, IsErrOf};
-ghost use Rattle.seg_base.specs.declared.shape.Shape.{Shape};
+ghost use Rattle.seg_words.specs.Types.{Shape};
 ghost use Rattle.disk_model.specs.Crash.{Causes, Untouched};
 ghost use Rattle.disk_model.specs.Only.{IsSettled};
 ghost use Rattle.disk_model.specs.declared.disk.File.TheVariants.{Log};
@@ -12,7 +12,7 @@ ghost use Rattle.recovery.specs.Store.{data_size, IsStore, IsShapeFound, IsLogOp
 use crate::OpenFault;
 use disk_model::{Disk, File};
 use log_frame::{LogFile, open, read_shape};
-use seg_base::Shape;
+use seg_base::{BLOCK_SIZE, FIRST_GATE, Shape};
 
 /// Reads the head of the log and tests it, and then that the data file has its blocks. `NotFormatted` comes exactly
 /// where the log isn't formatted, `BadFile` for the log as `BadFrame` for its head, and for the data file with its length
@@ -30,7 +30,7 @@ pub fn read_head<D: Disk>(disk: &mut D) -> Result<Shape, OpenFault>
     let Ok(len) = disk.len(File::Data) else {
         return Err(OpenFault::DeviceFault);
     };
-    if len < u64::from(shape.blocks) * 4096 {
+    if len < u64::from(shape.blocks) * BLOCK_SIZE as u64 {
         return Err(OpenFault::BadFile {
             file: File::Data,
             offset: len,
@@ -45,7 +45,7 @@ pub fn read_head<D: Disk>(disk: &mut D) -> Result<Shape, OpenFault>
 pub fn open_log<D: Disk>(disk: &mut D, from: u64) -> Result<LogFile, OpenFault>
     ensures found { D.meaning.told disk.old → IsLogOpened (D.meaning.files disk.old) from result }
     ensures whole { (shape : Shape) (before after : List (List ℕ)) → IsSettled D.meaning disk.old Log
-        → IsStore shape (before ++ after) (D.meaning.files disk.old) → from ≡ 63 + length (frames before)
+        → IsStore shape (before ++ after) (D.meaning.files disk.old) → from ≡ FIRST_GATE + length (frames before)
         → Answers result (λ end. IsReady D.meaning disk.new shape (before ++ after) end) }
     ensures only { IsErrOf result OpenFault.AlreadyFormatted → ⊥ }
     ensures cause { Causes D.meaning disk.old disk.new (IsErrOf result OpenFault.DeviceFault) }

@@ -2,7 +2,7 @@
 ghost use Rattle.std.specs.Prelude.{◌≡◌, ◌↔◌, ◌+◌, ◌-◌, ◌^◌, ◌<◌, ◌≤◌, ℕ, length, replicate, OnOk, IfErr, IsErr, IsErrOf, false, true};
 ghost use Rattle.disk_model.specs.Files.{Files, content, written, Torn};
 ghost use Rattle.disk_model.specs.Crash.{Leaves, Causes, Untouched};
-ghost use Rattle.seg_base.specs.Places.{is_shape};
+ghost use Rattle.seg_words.specs.Types.{is_shape};
 ghost use Rattle.log_frame.specs.Head.{is_formatted};
 ghost use Rattle.recovery.specs.Store.{FormatAnswers, IsDurable, IsEmptyStore, IsFormatFault, NoneOrEmpty};
 ghost use Rattle.disk_model.specs.Only.{OnlyFile, IsSettled, IsPut};
@@ -11,7 +11,7 @@ ghost use Rattle.disk_model.specs.declared.disk.File.TheVariants.{Data, Log};
 use crate::OpenFault;
 use disk_model::{Disk, File};
 use log_frame::{FrameFault, make_head, read_shape};
-use seg_base::{Failed, Shape};
+use seg_base::{BLOCK_SIZE, Failed, Shape};
 
 // How many bytes are written at once.
 const PIECE: u64 = 65_536;
@@ -63,7 +63,7 @@ fn write_store<D: Disk>(disk: &mut D, shape: &Shape) -> Result<(), OpenFault>
     ensures only { IfErr result (λ e. e ≡ OpenFault.DeviceFault) }
     ensures told { D.meaning.told disk.new ↔ D.meaning.told disk.old }
 {
-    let total = u64::from(shape.blocks) * 4096;
+    let total = u64::from(shape.blocks) * BLOCK_SIZE as u64;
     let Ok(()) = write_zeros(disk, total) else {
         return Err(OpenFault::DeviceFault);
     };

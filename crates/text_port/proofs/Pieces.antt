@@ -1,9 +1,7 @@
 -- Reading and writing piece by piece.
-use Rattle.std.proofs.Common.{◌≡◌, ℕ, ◌+◌, ◌-◌, ◌≤◌, ◌<◌, List, [], ◌++◌, length, take, drop, refl, ap, sym, ◌∙◌, append_assoc, subst, arith, length-append}
-use Rattle.std.proofs.lemmas.List.{append-nil, take_at, length-take-le, take_rest, drop_all, take-append-drop, drop-drop}
+use Rattle.std.proofs.Common.{◌≡◌, ℕ, ◌+◌, ◌-◌, ◌≤◌, ◌<◌, List, [], ◌++◌, length, take, drop, refl, ap, sym, ◌∙◌, append_assoc, subst, arith, length-append, append-nil, take_at, length-take-le, take-append-drop, drop-drop, Option, Some, None}
+use Rattle.seg_words.proofs.Lemmas.{take_rest, drop_all}
 use Rattle.std.proofs.Math.Seq.{take-add}
-use Rattle.std.specs.declared.option.Option.{Option}
-use Rattle.std.specs.Prelude.{Some, None}
 use Rattle.std.specs.Io.KnownBytes.{Consumes, Appends, Keeps, IsAtEnd}
 use Rattle.text_port.specs.Whole.{AppendsPrefix, WereAll, WasLonger}
 

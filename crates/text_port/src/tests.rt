@@ -107,7 +107,7 @@ fn adapters_pass_bytes_on_and_count_faults(rt: HostRuntime) -> Result<(), Fail> 
     assert_eq!(rt; full.write(b"x"), Err(Failed));
     assert_eq!(rt; full.faults(), 1);
     if let Some(cause) = full.cause() {
-        let words = cause.to_string(rt.alloc())?;
+        let words = cause.line(rt.alloc())?;
         assert_eq!(rt; words.as_str(), "standard output: write: no byte was taken");
     }
     Ok(())

@@ -1,7 +1,7 @@
 // Reading to the end, and writing all.
 ghost use Rattle.std.specs.Prelude.{◌≡◌, ◌≤◌, length, IfOk, IsErrOf, OnErr, OnOk};
 ghost use Rattle.std.specs.Io.KnownBytes.{Appends, IsAtEnd};
-ghost use Rattle.seg_base.specs.Faults.{Rose, HasCause};
+ghost use Rattle.seg_words.specs.Types.{Rose, HasCause};
 ghost use Rattle.text_port.specs.Whole.{AppendsPrefix, WereAll, WasLonger};
 
 use crate::{Sink, Source};

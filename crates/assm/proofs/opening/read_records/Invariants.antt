@@ -1,5 +1,5 @@
 use Rattle.std.proofs.Common.{ℕ, ◌-◌, ◌^◌, ◌≤◌, List, []}
-use Rattle.seg_base.specs.declared.shape.Shape.{Shape}
+use Rattle.seg_words.specs.Types.{Shape}
 use Rattle.disk_model.specs.Crash.{Untouched}
 use Rattle.log_frame.specs.Ready.{IsReady}
 use Rattle.assm.specs.declared.record.Record.{Record}

@@ -1,7 +1,6 @@
-use Rattle.std.proofs.Common.{◌<◌, ◌++◌, arith, length, sym, ◌∙◌}
-use Rattle.std.proofs.lemmas.Bool.{true≢false}
+use Rattle.std.proofs.Common.{◌<◌, ◌++◌, arith, length, sym, ◌∙◌, true≢false}
 use Rattle.assm.proofs.Replayed.{next_left, kept_left, all_read}
-use Rattle.assm.proofs.Finding.{read_on, all_read as all_found, bad_group}
+use Rattle.assm.proofs.Finding.{read_on, all_read as all_found}
 use Rattle.assm.proofs.replay.replay_group.Goals as goal
 
 pub loop-input-preserved : goal.loop-input-preserved

@@ -1,6 +1,6 @@
 use Rattle.std.proofs.Common.{ℕ, ◌≤◌, length}
 use Rattle.std.specs.Io.KnownBytes.{Appends}
-use Rattle.seg_base.specs.declared.shape.Shape.{Shape}
+use Rattle.seg_words.specs.Types.{Shape}
 use Rattle.assm.specs.Lines.{text_of}
 use Rattle.assm.specs.Live.{Live}
 use Rattle.assm.proofs.Histories.{Between}

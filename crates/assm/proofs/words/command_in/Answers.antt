@@ -1,6 +1,5 @@
-use Rattle.std.proofs.Common.{map, arith, Global}
-use Rattle.std.proofs.lemmas.List.{length-map}
-use Rattle.std.specs.Prelude.{string_bytes}
+use Rattle.std.proofs.Common.{map, arith, Global, string_bytes}
+use Rattle.seg_words.proofs.Lemmas.{length-map}
 use Rattle.assm.proofs.WordsLemmas.{other_length}
 use Rattle.assm.proofs.words.command_in.Goals as goal
 

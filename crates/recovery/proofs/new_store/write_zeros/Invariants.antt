@@ -1,5 +1,4 @@
-use Rattle.std.proofs.Common.{◌≡◌, ◌-◌, ◌≤◌}
-use Rattle.std.specs.Prelude.{◌↔◌}
+use Rattle.std.proofs.Common.{◌≡◌, ◌-◌, ◌≤◌, ◌↔◌}
 use Rattle.disk_model.specs.Only.{IsSettled}
 use Rattle.disk_model.specs.declared.disk.File.TheVariants.{Data}
 use Rattle.recovery.proofs.Zeros.{Zeroed}

@@ -1,10 +1,8 @@
-use Rattle.std.proofs.Common.{◌≡◌, ℕ, List, not, true, sym, subst, [], ◌∷◌}
-use Rattle.std.specs.List.{list_all, list_any}
-use Rattle.std.specs.Str.{bytes_eq}
+use Rattle.std.proofs.Common.{◌≡◌, ℕ, List, not, true, sym, subst, [], ◌∷◌, bytes_eq, arith}
+use Rattle.seg_words.specs.Types.{list_all, list_any}
 use Rattle.assm.specs.Script.{labels_of, may_follow}
 use Rattle.assm.specs.declared.statement.Statement.{Statement}
-use Rattle.std.proofs.Common.{arith}
-use Rattle.std.proofs.lemmas.Grind.{common_steps}
+use Rattle.seg_words.proofs.Lemmas.{common_steps}
 use Rattle.assm.proofs.Drafts.{labels_free, draft_push}
 use Rattle.assm.proofs.draft.Draft.add.Goals as goal
 

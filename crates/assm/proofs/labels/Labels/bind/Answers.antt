@@ -1,6 +1,5 @@
-use Rattle.std.proofs.Common.{◌≡◌, ℕ, List, [], ◌∷◌, ◌++◌, false, map, ap, ◌∙◌}
-use Rattle.std.specs.Str.{bytes_eq}
-use Rattle.std.specs.List.{list_any}
+use Rattle.std.proofs.Common.{◌≡◌, ℕ, List, [], ◌∷◌, ◌++◌, false, map, ap, ◌∙◌, bytes_eq}
+use Rattle.seg_words.specs.Types.{list_any}
 use Rattle.assm.proofs.LabelSets.{any_map, insert_new}
 use Rattle.assm.proofs.labels.Labels.bind.Goals as goal
 

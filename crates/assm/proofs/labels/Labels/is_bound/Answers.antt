@@ -1,6 +1,5 @@
-use Rattle.std.proofs.Common.{◌∙◌, ap}
-use Rattle.std.specs.Str.{bytes_eq}
-use Rattle.std.specs.List.{list_any}
+use Rattle.std.proofs.Common.{◌∙◌, ap, bytes_eq}
+use Rattle.seg_words.specs.Types.{list_any}
 use Rattle.assm.proofs.LabelSets.{any_map}
 use Rattle.assm.proofs.labels.Labels.is_bound.Goals as goal
 

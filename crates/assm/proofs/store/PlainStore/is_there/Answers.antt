@@ -1,5 +1,5 @@
 use Rattle.std.proofs.Common.{List, ◌==◌, ◌∙◌, ap}
-use Rattle.std.specs.List.{list_any}
+use Rattle.seg_words.specs.Types.{list_any}
 use Rattle.assm.specs.declared.record.CatalogueRow.{CatalogueRow}
 use Rattle.assm.specs.Redo.{is_there}
 use Rattle.assm.proofs.Stores.{there_reversed}

@@ -1,11 +1,11 @@
 use Rattle.std.proofs.Common.{◌≡◌, List, ◌∷◌, ap, sym, ◌∙◌, None}
 use Rattle.assm.specs.declared.record.Record.{Record}
-use Rattle.assm.specs.declared.record.Record.TheVariants as made
 use Rattle.assm.specs.declared.world.World.{World}
-use Rattle.assm.specs.declared.entry.Outcome.TheVariants as told
 use Rattle.assm.specs.Means.{MeetsEnd}
 use Rattle.assm.proofs.Acts.{grows_one}
 use Rattle.assm.proofs.Flushes.{world_begun, stops_from}
+use Rattle.assm.specs.declared.record.Record.TheVariants as made
+use Rattle.assm.specs.declared.entry.Outcome.TheVariants as told
 use Rattle.assm.proofs.world.World.close.Goals as goal
 
 pub returns-in-Ok-finish-clause-live : goal.returns-in-Ok-finish-clause-live

@@ -1,5 +1,5 @@
 use Rattle.std.proofs.Common.{arith, drop, ap, sym, ◌∙◌}
-use Rattle.std.proofs.lemmas.Grind.{common_steps}
+use Rattle.seg_words.proofs.Lemmas.{common_steps}
 use Rattle.text_port.specs.Memory.{Supply}
 use Rattle.text_port.proofs.Pieces.{piece_at, empty_at}
 use Rattle.text_port.proofs.memory.MemorySourceSource.read.Goals as goal

@@ -5,6 +5,7 @@ pub mod Pick
 pub mod Going
 pub mod Keeping
 pub mod OneFile
+pub mod Runs
 pub mod Rows
 pub mod WriteAndSync
 pub mod Stop

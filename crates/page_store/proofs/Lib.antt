@@ -1,0 +1,10 @@
+pub mod Parts
+pub mod Heads
+pub mod Changes
+pub mod Batch
+pub mod Copies
+pub mod Stages
+pub mod Moves
+pub mod Fronts
+pub mod Whole
+pub mod Opening

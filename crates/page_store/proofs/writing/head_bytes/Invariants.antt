@@ -1,0 +1,8 @@
+use Rattle.std.proofs.Common.{◌∷◌, length, take, List, ℕ}
+use Rattle.std.specs.List.{flat_map}
+use Rattle.page_bytes.specs.Pages.{IsFront}
+use Rattle.page_store.specs.Steps.{dba_bytes}
+use Rattle.page_store.proofs.writing.head_bytes.Given as goal
+
+abbrev pub invariant-loop-page : goal.invariant-loop-page
+invariant-loop-page l = IsFront l.head (0 ∷ length l.batch ∷ flat_map dba_bytes (take l.page-index l.batch)) l.at

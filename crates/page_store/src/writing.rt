@@ -1,0 +1,128 @@
+// The steps of a batch, each synced before the next one begins.
+ghost use Rattle.std.specs.Prelude.{◌≡◌, ◌↔◌, ◌≤◌, ◌+◌, ◌*◌, ◌∷◌, ◌++◌, ℕ, List, length, drop, true, OnOk, IfErr, IsErr, IsErrOf};
+ghost use Rattle.std.specs.Int.{w32, to_be_bytes};
+ghost use Rattle.std.specs.List.{flat_map};
+ghost use Rattle.seg_base.specs.declared.shape.Shape.{Shape};
+ghost use Rattle.page_bytes.specs.Pages.{page_of as page_with};
+ghost use Rattle.disk_model.specs.Crash.{Leaves, Causes};
+ghost use Rattle.disk_model.specs.Only.{OnlyFile, IsSettled, Settles};
+ghost use Rattle.disk_model.specs.declared.disk.File.TheVariants.{Data};
+ghost use Rattle.page_store.specs.declared.page.RawPage.{RawPage};
+ghost use Rattle.page_store.specs.Pages.{HasPages, is_batch, block, head_blocks};
+ghost use Rattle.page_store.specs.Batches.{after, blocks_of, IsShut, IsStore, WholeOrNot, Answers};
+ghost use Rattle.page_store.specs.Steps.{IsCopied, IsOpened, IsPlaced, dba_bytes};
+
+use crate::area::{AREA_AT, AREA_HEAD, COPIES_AT, read_page};
+use crate::{PageFault, RawPage};
+use disk_model::{Disk, File, write_and_sync};
+use page_bytes::{add, begin};
+use seg_base::Failed;
+
+// The head of the area for a batch, its gate closed.
+fn head_bytes(batch: &[RawPage]) -> [u8; 4096]
+    requires { length batch.now ≤ 32 }
+    ensures { result ≡ page_with (0 ∷ length batch.now ∷ flat_map dba_bytes batch.now) }
+{
+    let mut head = [0; 4096];
+    let start = begin(&mut head);
+    let mut at = add(&mut head, start, &[0, batch.len() as u8]);
+    for page in batch {
+        at = add(&mut head, at, &page.dba_bytes());
+    }
+    head
+}
+
+// All of the head but its gate.
+fn behind_gate(head: &[u8; 4096]) -> &[u8]
+    ensures bytes { result.now ≡ drop 1 head.now }
+    ensures long { length result.now ≡ 4095 }
+{
+    let (_gate, rest) = head.split_at(1);
+    rest
+}
+
+/// Writes the head of the area behind its closed gate, and the copies.
+pub(crate) fn write_copies<D: Disk>(disk: &mut D, batch: &[RawPage]) -> Result<(), Failed>
+    requires { length batch.now ≤ 32 }
+    ensures any_moment { (shape : Shape) (pages : ℕ → List ℕ) → IsStore D.meaning disk.old shape pages → is_batch shape (blocks_of batch.now) ≡ true
+        → Leaves D.meaning disk.old disk.new (OnlyFile D.meaning disk.old Data (IsShut shape pages)) }
+    ensures done { (shape : Shape) (pages : ℕ → List ℕ) → IsStore D.meaning disk.old shape pages → is_batch shape (blocks_of batch.now) ≡ true
+        → OnOk result (Settles D.meaning disk.old disk.new Data (IsCopied shape pages batch.now)) }
+    ensures cause { Causes D.meaning disk.old disk.new (IsErr result) }
+    ensures told { D.meaning.told disk.new ↔ D.meaning.told disk.old }
+    ensures reads { D.meaning.log_reads disk.new ≡ D.meaning.log_reads disk.old }
+{
+    let head = head_bytes(batch);
+    disk.write_at(File::Data, AREA_AT + 1, behind_gate(&head))?;
+    for (i, page) in batch.iter().enumerate() {
+        disk.write_at(File::Data, COPIES_AT + 4096 * i as u64, page.as_slice())?;
+    }
+    disk.sync(File::Data)
+}
+
+/// Opens the gate of the area: from then on the copies count.
+pub(crate) fn open_area<D: Disk>(disk: &mut D) -> Result<(), Failed>
+    ensures any_moment { (shape : Shape) (pages : ℕ → List ℕ) (batch : List RawPage) → IsSettled D.meaning disk.old Data → IsCopied shape pages batch (D.meaning.files disk.old).data_bytes
+        → Leaves D.meaning disk.old disk.new (OnlyFile D.meaning disk.old Data (WholeOrNot shape pages batch)) }
+    ensures done { (shape : Shape) (pages : ℕ → List ℕ) (batch : List RawPage) → IsSettled D.meaning disk.old Data → IsCopied shape pages batch (D.meaning.files disk.old).data_bytes
+        → OnOk result (Settles D.meaning disk.old disk.new Data (IsOpened shape pages batch)) }
+    ensures cause { Causes D.meaning disk.old disk.new (IsErr result) }
+    ensures told { D.meaning.told disk.new ↔ D.meaning.told disk.old }
+    ensures reads { D.meaning.log_reads disk.new ≡ D.meaning.log_reads disk.old }
+{
+    write_and_sync(disk, File::Data, AREA_AT, &[1])
+}
+
+/// Writes the pages to their blocks.
+pub(crate) fn write_places<D: Disk>(disk: &mut D, batch: &[RawPage]) -> Result<(), Failed>
+    ensures any_moment { (shape : Shape) (pages : ℕ → List ℕ) → IsSettled D.meaning disk.old Data → IsOpened shape pages batch.now (D.meaning.files disk.old).data_bytes
+        → Leaves D.meaning disk.old disk.new (OnlyFile D.meaning disk.old Data (HasPages shape (after batch.now pages))) }
+    ensures done { (shape : Shape) (pages : ℕ → List ℕ) → IsSettled D.meaning disk.old Data → IsOpened shape pages batch.now (D.meaning.files disk.old).data_bytes
+        → OnOk result (Settles D.meaning disk.old disk.new Data (IsPlaced shape pages batch.now)) }
+    ensures cause { Causes D.meaning disk.old disk.new (IsErr result) }
+    ensures told { D.meaning.told disk.new ↔ D.meaning.told disk.old }
+    ensures reads { D.meaning.log_reads disk.new ≡ D.meaning.log_reads disk.old }
+{
+    for page in batch {
+        disk.write_at(File::Data, page.offset(), page.as_slice())?;
+    }
+    disk.sync(File::Data)
+}
+
+/// Writes the copies of the area to their blocks.
+pub(crate) fn place_copies<D: Disk>(disk: &mut D, blocks: &[u32]) -> Result<(), PageFault>
+    requires { length blocks.now ≤ 32 }
+    ensures any_moment { (shape : Shape) (pages : ℕ → List ℕ) (batch : List RawPage) → IsSettled D.meaning disk.old Data → IsOpened shape pages batch (D.meaning.files disk.old).data_bytes
+        → blocks.now ≡ head_blocks (block 4 (D.meaning.files disk.old).data_bytes)
+        → Leaves D.meaning disk.old disk.new (OnlyFile D.meaning disk.old Data (HasPages shape (after batch pages))) }
+    ensures done { (shape : Shape) (pages : ℕ → List ℕ) (batch : List RawPage) → IsSettled D.meaning disk.old Data → IsOpened shape pages batch (D.meaning.files disk.old).data_bytes
+        → blocks.now ≡ head_blocks (block 4 (D.meaning.files disk.old).data_bytes)
+        → Answers result (λ _. Settles D.meaning disk.old disk.new Data (IsPlaced shape pages batch)) }
+    ensures whole { D.meaning.told disk.old → 151552 ≤ length (D.meaning.files disk.old).data_bytes → IfErr result (λ e. e ≡ PageFault.DeviceFault) }
+    ensures cause { Causes D.meaning disk.old disk.new (IsErrOf result PageFault.DeviceFault) }
+    ensures told { D.meaning.told disk.new ↔ D.meaning.told disk.old }
+    ensures reads { D.meaning.told disk.old → D.meaning.log_reads disk.new ≡ D.meaning.log_reads disk.old }
+{
+    let mut page = [0; 4096];
+    for (i, block) in blocks.iter().enumerate() {
+        if !read_page(disk, COPIES_AT + 4096 * i as u64, &mut page)? {
+            return Err(PageFault::BadPage { dba: AREA_HEAD });
+        }
+        disk.write_at(File::Data, 4096 * u64::from(*block), &page)?;
+    }
+    disk.sync(File::Data)?;
+    Ok(())
+}
+
+/// Closes the gate of the area, whose pages stand in their blocks.
+pub(crate) fn close_area<D: Disk>(disk: &mut D) -> Result<(), Failed>
+    ensures any_moment { (shape : Shape) (pages : ℕ → List ℕ) (batch : List RawPage) → IsSettled D.meaning disk.old Data → IsPlaced shape pages batch (D.meaning.files disk.old).data_bytes
+        → Leaves D.meaning disk.old disk.new (OnlyFile D.meaning disk.old Data (HasPages shape (after batch pages))) }
+    ensures done { (shape : Shape) (pages : ℕ → List ℕ) (batch : List RawPage) → IsSettled D.meaning disk.old Data → IsPlaced shape pages batch (D.meaning.files disk.old).data_bytes
+        → OnOk result (Settles D.meaning disk.old disk.new Data (IsShut shape (after batch pages))) }
+    ensures cause { Causes D.meaning disk.old disk.new (IsErr result) }
+    ensures told { D.meaning.told disk.new ↔ D.meaning.told disk.old }
+    ensures reads { D.meaning.log_reads disk.new ≡ D.meaning.log_reads disk.old }
+{
+    write_and_sync(disk, File::Data, AREA_AT, &[0])
+}

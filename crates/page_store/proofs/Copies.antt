@@ -1,13 +1,13 @@
 -- The copies in the area: what changes them, what makes them, what they read as.
-use Rattle.std.proofs.Common.{◌≡◌, ◌⊎◌, inl, inr, ℕ, zero, suc, ◌+◌, ◌-◌, ◌*◌, ◌^◌, ◌<◌, ◌≤◌, List, [], ◌∷◌, ◌++◌, length, take, drop, replicate, get_or, slice_index, map, refl, sym, ◌∙◌, ap, subst, arith}
-use Rattle.std.specs.Int.{w32, to_be_bytes, from_be_bytes}
+use Rattle.std.proofs.Common.{◌≡◌, ℕ, zero, suc, ◌+◌, ◌-◌, ◌*◌, ◌^◌, ◌<◌, ◌≤◌, List, [], ◌∷◌, ◌++◌, length, take, drop, replicate, get_or, slice_index, refl, sym, ◌∙◌, ap, arith}
+use Rattle.std.specs.Int.{w32, from_be_bytes}
 use Rattle.std.specs.List.{flat_map}
 use Rattle.std.proofs.lemmas.List.{drop-drop, take_at, drop_at, append_assoc}
 use Rattle.std.proofs.lemmas.Grind.{get_or_after_one}
 use Rattle.std.proofs.lemmas.Nat.{from_be_bytes-to_be_bytes_4}
 use Rattle.seg_base.specs.Fields.{number_in}
 use Rattle.page_bytes.specs.Pages.{page_of as page_with}
-use Rattle.page_store.specs.Pages.{part, block, gate, copy, copies, copies_of, numbers, head_blocks}
+use Rattle.page_store.specs.Pages.{block, copy, copies, copies_of, numbers, head_blocks}
 use Rattle.page_store.specs.Batches.{blocks_of}
 use Rattle.page_store.specs.Steps.{dba_bytes}
 use Rattle.page_store.specs.declared.page.RawPage.{RawPage}

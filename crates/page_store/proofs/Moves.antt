@@ -1,9 +1,9 @@
 -- The writes of a batch, one by one, over plain disks.
-use Rattle.std.proofs.Common.{◌≡◌, inl, inr, ⊎_elim, ℕ, ◌+◌, ◌*◌, ◌<◌, ◌≤◌, Bool, true, false, List, ◌∷◌, length, drop, get_or, refl, sym, ◌∙◌, ap, subst, arith}
+use Rattle.std.proofs.Common.{◌≡◌, inl, inr, ⊎_elim, ℕ, ◌+◌, ◌*◌, ◌<◌, ◌≤◌, Bool, true, false, List, ◌∷◌, length, drop, get_or, sym, ◌∙◌, ap, subst, arith}
 use Rattle.std.specs.List.{flat_map}
 use Rattle.std.proofs.lemmas.Bool.{cases_lt}
 use Rattle.std.proofs.lemmas.List.{get_or_read}
-use Rattle.std.specs.Prelude.{Result, OnOk, OnErr, ◌↔◌}
+use Rattle.std.specs.Prelude.{Result, OnOk}
 use Rattle.seg_base.specs.declared.shape.Shape.{Shape}
 use Rattle.disk_model.specs.Files.{Files, content, put, written, Torn, TornFile}
 use Rattle.disk_model.specs.Crash.{Meaning, Now, Elapses, Leaves, Untouched}
@@ -11,7 +11,6 @@ use Rattle.disk_model.specs.Only.{OnlyFile, IsSettled, Settles}
 use Rattle.disk_model.specs.declared.disk.File.TheVariants.{Data}
 use Rattle.disk_model.proofs.Moments.{on_ok}
 use Rattle.disk_model.proofs.Runs.{Running, run_started, run_write, run_written, run_looked, leaves_so, settles_so}
-use Rattle.disk_model.proofs.OneFile.{So}
 use Rattle.page_bytes.specs.Pages.{page_of as page_with}
 use Rattle.disk_model.specs.AsRead.{torn_written}
 use Rattle.page_store.specs.Pages.{part, block, copy, head_blocks, is_batch, HasPages}

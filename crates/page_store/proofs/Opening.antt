@@ -1,8 +1,7 @@
 -- An opening, over plain disks.
-use Rattle.std.proofs.Common.{◌≡◌, ◌≢◌, ℕ, ◌+◌, ◌*◌, ◌<◌, ◌≤◌, length, List, Bool, true, false, ◌&&◌, ◌==◌, refl, sym, ◌∙◌, ap, subst, arith}
-use Rattle.std.specs.Prelude.{Option, Some, None, Result, Ok, Err, IfErr}
+use Rattle.std.proofs.Common.{◌≡◌, ◌≢◌, ℕ, ◌+◌, ◌*◌, ◌<◌, ◌≤◌, length, List, Bool, true, false, ◌&&◌, ◌==◌, sym, ◌∙◌, ap, subst, arith}
+use Rattle.std.specs.Prelude.{Option, Some, None, Ok, Err}
 use Rattle.seg_base.specs.declared.shape.Shape.{Shape}
-use Rattle.disk_model.specs.Files.{Files}
 use Rattle.disk_model.specs.Crash.{Meaning, Leaves, Untouched}
 use Rattle.disk_model.specs.Only.{OnlyFile, IsSettled, Settles}
 use Rattle.disk_model.specs.declared.disk.File.TheVariants.{Data}

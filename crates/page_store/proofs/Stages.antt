@@ -1,23 +1,22 @@
 -- What the file reads as at each stage of a batch.
-use Rattle.std.proofs.Common.{◌≡◌, ◌≢◌, ◌⊎◌, inl, inr, ⊎_elim, ℕ, ◌+◌, ◌*◌, ◌^◌, ◌<◌, ◌≤◌, ◌==◌, Bool, true, cond, List, [], ◌∷◌, ◌++◌, length, drop, get_or, slice_index, refl, sym, ◌∙◌, ap, subst, arith}
+use Rattle.std.proofs.Common.{◌≡◌, ◌≢◌, ◌⊎◌, inl, inr, ⊎_elim, ℕ, ◌+◌, ◌*◌, ◌^◌, ◌<◌, ◌≤◌, Bool, true, cond, List, [], ◌∷◌, length, drop, get_or, slice_index, refl, sym, ◌∙◌, ap, subst, arith}
 use Rattle.std.specs.Int.{w32}
-use Rattle.std.specs.List.{AllByRecursion, flat_map}
+use Rattle.std.specs.List.{flat_map}
 use Rattle.seg_base.specs.Fields.{number_in}
 use Rattle.std.proofs.lemmas.List.{get_or_read, length-take, length-drop}
 use Rattle.std.proofs.lemmas.Bool.{cases_eq, cases_order, cases_lt}
-use Rattle.seg_base.specs.Places.{is_shape}
 use Rattle.seg_base.specs.declared.shape.Shape.{Shape}
 use Rattle.page_bytes.specs.Pages.{page_of as page_with}
 use Rattle.disk_model.specs.Files.{written, Torn}
 use Rattle.disk_model.specs.AsRead.{torn_written}
-use Rattle.page_store.specs.Pages.{part, block, gate, copy, copies_of, head_blocks, page_in, page_of, is_place, is_batch, is_sound_area, HasPages}
+use Rattle.page_store.specs.Pages.{part, block, gate, copy, copies_of, head_blocks, page_in, page_of, is_place, is_batch, HasPages}
 use Rattle.page_store.specs.Batches.{blocks_of, after, IsShut, WholeOrNot}
 use Rattle.page_store.specs.Steps.{dba_bytes, IsNotIn, AreWhole, HasCopies, IsCopied, IsOpened, InPlace, IsPlaced}
 use Rattle.page_store.specs.declared.page.RawPage.{RawPage}
 use Rattle.page_store.proofs.Parts.{part_torn, part_written}
 use Rattle.page_store.proofs.Heads.{length-numbers, sound_shut, sound_open, sound_long, is_same, differs}
-use Rattle.page_store.proofs.Changes.{Stays, Beside, stays_all, stays_torn, torn_stays, behind_gate, gate_part}
-use Rattle.page_store.proofs.Batch.{limits, by_recursion, to_index, IsOutside, outside, IsBatch, tested, page_else, page_none, page_twice, page_placed}
+use Rattle.page_store.proofs.Changes.{Stays, Beside, stays_torn, torn_stays, behind_gate, gate_part}
+use Rattle.page_store.proofs.Batch.{limits, by_recursion, to_index, IsOutside, outside, tested, page_else, page_none, page_twice, page_placed}
 use Rattle.page_store.proofs.Copies.{length-copies, get_copy, get_number, blocks_named, copies_stay, read_back}
 
 -- the pages by the gate

@@ -1,15 +1,15 @@
 -- The steps of a batch one after the other, over plain disks.
 use Rattle.std.proofs.Common.{◌≡◌, inl, inr, ℕ, List, sym, ap, subst}
-use Rattle.std.specs.Prelude.{Result, Err}
+use Rattle.std.specs.Prelude.{Err}
 use Rattle.seg_base.specs.declared.shape.Shape.{Shape}
 use Rattle.disk_model.specs.Files.{Files}
-use Rattle.disk_model.specs.Crash.{Meaning, Now, Leaves}
-use Rattle.disk_model.specs.Only.{OnlyFile, IsSettled, Settles}
+use Rattle.disk_model.specs.Crash.{Meaning, Leaves}
+use Rattle.disk_model.specs.Only.{OnlyFile, Settles}
 use Rattle.disk_model.specs.declared.disk.File.TheVariants.{Data}
 use Rattle.disk_model.proofs.OneFile.{only_weaker}
 use Rattle.disk_model.proofs.Runs.{settles_then, settles_so, leaves_then, leaves_so}
 use Rattle.page_store.specs.Pages.{HasPages, copies_of}
-use Rattle.page_store.specs.Batches.{after, IsShut, IsStore, IsUnfinished, Leads, WholeOrNot, Answers}
+use Rattle.page_store.specs.Batches.{after, IsShut, IsUnfinished, Leads, WholeOrNot, Answers}
 use Rattle.page_store.specs.Steps.{IsCopied, IsOpened, IsPlaced}
 use Rattle.page_store.specs.declared.page.RawPage.{RawPage}
 use Rattle.page_store.specs.declared.fault.PageFault.{PageFault}

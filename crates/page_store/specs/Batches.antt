@@ -5,7 +5,7 @@ use Rattle.disk_model.specs.Files.{Files}
 use Rattle.disk_model.specs.Crash.{Meaning, Now}
 use Rattle.disk_model.specs.Only.{IsSettled, OnlyFile}
 use Rattle.disk_model.specs.declared.disk.File.TheVariants.{Data}
-use Rattle.page_store.specs.Pages.{part, gate, block, page_in, is_batch, is_sound_area, head_blocks, HasPages}
+use Rattle.page_store.specs.Pages.{part, gate, block, page_in, is_sound_area, head_blocks, HasPages}
 use Rattle.page_store.specs.declared.page.RawPage.{RawPage}
 use Rattle.page_store.specs.declared.fault.PageFault.{PageFault}
 use Rattle.page_store.specs.declared.fault.PageFault.TheVariants.{DeviceFault, BadPage, NoMemory}

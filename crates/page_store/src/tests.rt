@@ -40,6 +40,7 @@ fn batch() -> [RawPage; 3]
 // The first byte and the last one of a block's page.
 fn ends_of<D: Disk>(store: &mut PageStore, disk: &mut D, block: u32) -> Result<(u8, u8), Fail>
     requires { store.old ≡ SHAPE }
+    ensures { store.new ≡ SHAPE }
 {
     if !is_place(&SHAPE, Dba(block)) {
         return Err("no place")?;
@@ -64,12 +65,12 @@ fn a_stop_leaves_a_batch_whole_or_not_at_all(rt: HostRuntime) -> Result<(), Fail
     let alloc = rt.alloc();
     let before = [(0, 0), (0, 0), (0, 0), (0, 0)];
     let after = [(7, 7), (8, 8), (9, 9), (0, 0)];
-    for writes in 0..10 {
+    for writes in 0..11 {
         let mut memory = zeros(alloc, 262_144)?;
         let mut store = open(&mut memory, SHAPE)?;
         let mut disk = Stopping::new(memory, writes);
         let done = store.put_all(&mut disk, &batch()).is_ok();
-        assert_eq!(rt; done, writes == 9);
+        assert_eq!(rt; done, writes == 10);
         let memory = disk.into_disk();
         for tear in [Tear::Old, Tear::New, Tear::Zero] {
             let mut image = memory.crashed(memory.moment(), tear)?;
@@ -119,13 +120,16 @@ fn each_damage_of_the_area_is_refused(rt: HostRuntime) -> Result<(), Fail> {
         assert_eq!(rt; opened(alloc, head, 5)?, want, "{head:?}");
     }
     let mut cut = zeros(alloc, 151_551)?;
-    assert_eq!(rt; open(&mut cut, SHAPE), bad);
+    assert_eq!(rt; open(&mut cut, SHAPE).err(), bad.err());
     let mut short = zeros(alloc, 151_552)?;
     let mut store = open(&mut short, SHAPE)?;
     let mut bytes = [0; 4096];
-    let missing = Err(PageFault::BadPage { dba: Dba(37) });
-    assert_eq!(rt; store.get(&mut short, Dba(37), &mut bytes), missing);
+    let missing = PageFault::BadPage { dba: Dba(37) };
+    assert_eq!(rt; store.get(&mut short, Dba(37), &mut bytes), Err(missing));
     let mut failing = Memory::new(alloc, b"", b"", &[0])?;
-    assert_eq!(rt; open(&mut failing, SHAPE), Err(PageFault::DeviceFault));
+    assert_eq!(rt;
+        open(&mut failing, SHAPE).err(),
+        Some(PageFault::DeviceFault)
+    );
     Ok(())
 }

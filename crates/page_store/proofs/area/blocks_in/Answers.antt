@@ -1,4 +1,4 @@
-use Rattle.std.proofs.Common.{◌≡◌, ◌<◌, slice_index, List, ℕ, sym, ◌∙◌, ap, arith}
+use Rattle.std.proofs.Common.{slice_index, sym, ◌∙◌, ap, arith}
 use Rattle.page_store.specs.Pages.{is_batch, head_blocks}
 use Rattle.page_store.proofs.Heads.{length-numbers, numbers_read, too_many}
 use Rattle.page_store.proofs.area.blocks_in.Goals as goal

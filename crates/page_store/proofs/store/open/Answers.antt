@@ -1,4 +1,4 @@
-use Rattle.std.proofs.Common.{◌≡◌, ℕ, List, Bool, refl, sym, subst, arith, ap}
+use Rattle.std.proofs.Common.{arith, ap}
 use Rattle.std.proofs.Common.{length}
 use Rattle.disk_model.specs.Files.{Files}
 use Rattle.disk_model.specs.Only.{Settles}

@@ -1,4 +1,4 @@
-use Rattle.std.proofs.Common.{◌∷◌, length, take, List, ℕ}
+use Rattle.std.proofs.Common.{◌∷◌, length, take}
 use Rattle.std.specs.List.{flat_map}
 use Rattle.page_bytes.specs.Pages.{IsFront}
 use Rattle.page_store.specs.Steps.{dba_bytes}

@@ -1,4 +1,4 @@
-use Rattle.std.proofs.Common.{◌∷◌, [], List, ℕ}
+use Rattle.std.proofs.Common.{◌∷◌, []}
 use Rattle.disk_model.specs.Files.{Torn, written}
 use Rattle.disk_model.specs.declared.disk.File.TheVariants.{Data}
 use Rattle.disk_model.proofs.Moments.{on_ok}

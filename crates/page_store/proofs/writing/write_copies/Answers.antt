@@ -1,4 +1,4 @@
-use Rattle.std.proofs.Common.{◌*◌, ◌+◌, ◌∙◌, refl, sym, ap, arith, ℕ, List, drop}
+use Rattle.std.proofs.Common.{◌*◌, ◌+◌, ◌∙◌, refl, ap, arith, ℕ, List, drop}
 use Rattle.disk_model.specs.declared.disk.File.TheVariants.{Data}
 use Rattle.disk_model.proofs.Runs.{run_synced, run_settles}
 use Rattle.page_store.proofs.Changes.{Stays}

@@ -7,3 +7,4 @@ pub mod Making
 pub mod Laws
 pub mod WholeLog
 pub mod Spelled
+pub mod Pieces

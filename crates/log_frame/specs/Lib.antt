@@ -3,3 +3,4 @@ pub mod Frame
 pub mod Spelling
 pub mod Ready
 pub mod Found
+pub mod Reading

@@ -19,7 +19,7 @@ pub enum FrameFault {
 
 /// A byte that isn't the one that should stand there.
 #[derive(Clone, Copy, Debug, PartialEq, Eq)]
-pub(crate) struct WrongByte {
+pub struct WrongByte {
     pub offset: u64,
     pub seen: u8,
 }

@@ -4,11 +4,13 @@
 mod fault;
 mod head;
 mod log;
+mod reader;
 mod spelling;
 #[cfg(test)]
 mod tests;
 
-pub use fault::FrameFault;
+pub use fault::{FrameFault, WrongByte};
 pub use head::{HEAD_NAME, make_head, read_shape};
 pub use log::{Group, LogFile, open};
+pub use reader::GroupReader;
 pub use spelling::a_log_has_one_spelling;

@@ -7,6 +7,7 @@ ghost use Rattle.disk_model.specs.declared.disk.File.TheVariants.{Log};
 ghost use Rattle.log_frame.specs.Frame.{frames, IsPayload, size_found, group_found};
 ghost use Rattle.log_frame.specs.Found.{IsSizeFound, IsGroupFound, IsOpen, IsEndFound, IsOpening, Answers, AnswersInMemory, IsFirst};
 ghost use Rattle.log_frame.specs.Spelling.{IsLog, WithOrWithout};
+ghost use Rattle.log_frame.specs.Reading.{IsFront};
 ghost use Rattle.log_frame.specs.Ready.{IsReady, Leads};
 
 use crate::FrameFault;
@@ -38,13 +39,11 @@ impl Model for LogFile {
     ghost inverse = { λ end. record { end = end } };
 }
 
-// The length of the payload behind a gate, in a log of this length.
-#[tactic(auto, using(disk_model::proofs::Going::untouched_call))]
-fn size_at<D: Disk>(disk: &mut D, at: u64, len: u64) -> Result<Option<u32>, FrameFault>
-    ensures found { D.meaning.told disk.old → len ≡ length (D.meaning.files disk.old).log_bytes → IsSizeFound (size_found (D.meaning.files disk.old).log_bytes at) result }
+// The length of the payload behind a gate, in a log of this length, by the five bytes that were read there.
+pub(crate) fn size_in(front: &[u8; 5], at: u64, len: u64) -> Result<Option<u32>, FrameFault>
+    ensures found { (file : List ℕ) → len ≡ length file → IsFront file at front.now → IsSizeFound (size_found file at) result }
     ensures within { IfOk result (λ o. IfSome o (λ size. at + 5 + size < len)) }
-    ensures cause { Causes D.meaning disk.old disk.new (IsErrOf result FrameFault.DeviceFault) }
-    ensures untouched { Untouched D.meaning disk.old disk.new }
+    ensures here { IsErrOf result FrameFault.DeviceFault → ⊥ }
 {
     if len <= at {
         return Err(FrameFault::BadFrame {
@@ -52,11 +51,7 @@ fn size_at<D: Disk>(disk: &mut D, at: u64, len: u64) -> Result<Option<u32>, Fram
             seen: 0,
         });
     }
-    let mut front = [0u8; 5];
-    let Ok(_) = disk.read(File::Log, at, &mut front) else {
-        return Err(FrameFault::DeviceFault);
-    };
-    let [gate, a, b, c, d] = front;
+    let [gate, a, b, c, d] = *front;
     if gate != 1 {
         return Ok(None);
     }
@@ -81,6 +76,21 @@ fn size_at<D: Disk>(disk: &mut D, at: u64, len: u64) -> Result<Option<u32>, Fram
         });
     }
     Ok(Some(size))
+}
+
+// The length of the payload behind a gate, in a log of this length.
+#[tactic(auto, using(disk_model::proofs::Going::untouched_call))]
+fn size_at<D: Disk>(disk: &mut D, at: u64, len: u64) -> Result<Option<u32>, FrameFault>
+    ensures found { D.meaning.told disk.old → len ≡ length (D.meaning.files disk.old).log_bytes → IsSizeFound (size_found (D.meaning.files disk.old).log_bytes at) result }
+    ensures within { IfOk result (λ o. IfSome o (λ size. at + 5 + size < len)) }
+    ensures cause { Causes D.meaning disk.old disk.new (IsErrOf result FrameFault.DeviceFault) }
+    ensures untouched { Untouched D.meaning disk.old disk.new }
+{
+    let mut front = [0u8; 5];
+    let Ok(_) = disk.read(File::Log, at, &mut front) else {
+        return Err(FrameFault::DeviceFault);
+    };
+    size_in(&front, at, len)
 }
 
 // The group at a gate.
@@ -119,7 +129,7 @@ fn read_group_at<D: Disk>(alloc: Global, disk: &mut D, at: u64) -> Result<Option
 
 // That the log has a head, whose gate is open.
 #[tactic(auto, using(disk_model::proofs::Going::untouched_call))]
-fn expect_open<D: Disk>(disk: &mut D, len: u64) -> Result<(), FrameFault>
+pub(crate) fn expect_open<D: Disk>(disk: &mut D, len: u64) -> Result<(), FrameFault>
     ensures open { D.meaning.told disk.old → len ≡ length (D.meaning.files disk.old).log_bytes → IsOpen (D.meaning.files disk.old).log_bytes result }
     ensures cause { Causes D.meaning disk.old disk.new (IsErrOf result FrameFault.DeviceFault) }
     ensures untouched { Untouched D.meaning disk.old disk.new }
@@ -185,6 +195,13 @@ pub fn open<D: Disk>(disk: &mut D, from: u64) -> Result<LogFile, FrameFault>
 }
 
 impl LogFile {
+    // A log whose closed gate stands there.
+    pub(crate) fn at(end: u64) -> LogFile
+        ensures { result ≡ end }
+    {
+        LogFile { end }
+    }
+
     /// Adds a group. At any moment of the call a crash leaves the log as it was or with this group, and the data file as
     /// before. At `Ok` each crash from then on leaves the log with the group. It takes no memory. After an `Err` the log
     /// has to be opened again.

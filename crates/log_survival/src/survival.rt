@@ -1,9 +1,12 @@
 // Each call that a writer of groups makes, with what survives it.
 ghost use Rattle.std.specs.Prelude.{◌≡◌, ◌↔◌, ◌≤◌, ◌++◌, [], ◌∷◌, ℕ, List, length, OnOk, OnErr, IfErr, IsErr};
 ghost use Rattle.seg_base.specs.declared.shape.Shape.{Shape};
-ghost use Rattle.disk_model.specs.Crash.{Causes, Untouched};
+ghost use Rattle.disk_model.specs.Crash.{Leaves, Causes, Untouched};
+ghost use Rattle.disk_model.specs.Only.{OnlyFile};
+ghost use Rattle.disk_model.specs.declared.disk.File.TheVariants.{Log};
 ghost use Rattle.log_frame.specs.Frame.{IsPayload};
 ghost use Rattle.log_frame.specs.Ready.{IsReady, Leads};
+ghost use Rattle.log_frame.specs.Spelling.{WithOrWithout};
 ghost use Rattle.log_survival.specs.Survives.{Survives, AreMade};
 ghost use Rattle.log_survival.specs.declared.acknowledged.Acknowledged.{Acknowledged};
 
@@ -24,10 +27,13 @@ pub fn begin<D: Disk>(disk: &D) -> u64
 /// as the last.
 pub fn append<D: Disk>(log: &mut LogFile, disk: &mut D, payload: &[u8]) -> Result<(), FrameFault>
     requires { IsPayload payload.now }
+    ensures any_moment { (shape : Shape) (groups : List (List ℕ)) → IsReady D.meaning disk.old shape groups log.old
+        → Leaves D.meaning disk.old disk.new (OnlyFile D.meaning disk.old Log (WithOrWithout shape groups payload.now)) }
     ensures survives { (since : ℕ) (shape : Shape) (groups : List (List ℕ)) (acknowledged : List Acknowledged)
         → IsReady D.meaning disk.old shape groups log.old → AreMade groups (D.meaning.clock disk.old) acknowledged
         → Survives D.meaning since shape groups acknowledged disk.old
         → Survives D.meaning since shape (groups ++ payload.now ∷ []) acknowledged disk.new × AreMade (groups ++ payload.now ∷ []) (D.meaning.clock disk.new) acknowledged }
+    ensures kept { OnErr result (log.new ≡ log.old) }
     ensures added { (shape : Shape) (groups : List (List ℕ)) → IsReady D.meaning disk.old shape groups log.old
         → OnOk result (Leads D.meaning disk.old disk.new shape (groups ++ payload.now ∷ []) log.new) }
     ensures cause { Causes D.meaning disk.old disk.new (IsErr result) }

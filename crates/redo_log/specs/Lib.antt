@@ -1,0 +1,5 @@
+pub mod Faults
+pub mod Kept
+pub mod Groups
+pub mod Found
+pub mod Lasting

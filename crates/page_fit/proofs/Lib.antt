@@ -1,0 +1,9 @@
+pub mod Headed
+pub mod Plain
+pub mod Sorted
+pub mod HeaderApart
+pub mod HeaderLaw
+pub mod LowPages
+pub mod FitLaw
+pub mod SequenceLaw
+pub mod TableLaw

@@ -1,0 +1,3 @@
+pub mod FitPages
+pub mod Headers
+pub mod Tables

@@ -26,12 +26,17 @@ def is_told(done):
             and lines[1].count(": ") == 2)
 
 
+def is_loaders(done):
+    """The call was the system's loader's, before the program began: it gives up at any error."""
+    return b"error while loading shared libraries" in done.stderr
+
+
 def interrupted(path, found, whole):
     for call in AGAIN:
         for nth in range(1, MOST):
             with fresh_store(path) as folder:
                 done = run_with(path, folder, ("run",), TEXT, call, "error=EINTR", nth)
-                if done.returncode != 0 or done.stdout != whole:
+                if not is_loaders(done) and (done.returncode != 0 or done.stdout != whole):
                     found.tell(f"EINTR at {call} {nth}: {status(done)}", False)
         found.tell(f"EINTR at each of the first {MOST - 1} calls of {call}, where there are as many")
 
@@ -44,6 +49,8 @@ def refused_runs(path, found, whole):
                 done = run_with(path, folder, ("run",), TEXT, call, f"error={error}", nth)
                 if done.returncode == 0:
                     break
+                if is_loaders(done):
+                    continue
                 words.add(done.stderr.decode().strip().replace("\n", " | "))
                 rows, fault = kept_rows(path, folder)
                 kept = rows is not None and printed_commits(done.stdout) <= len(rows) <= 3
@@ -59,6 +66,8 @@ def refused_formats(path, found):
                 done = run_with(path, folder, FORMAT, b"", call, f"error={error}", nth)
                 if done.returncode == 0:
                     break
+                if is_loaders(done):
+                    continue
                 again = run(path, folder, b"", words=FORMAT)
                 if not is_told(done) or again.returncode not in (0, 10):
                     found.tell(f"format, {error} at {call} {nth}: {status(done)}, then {status(again)}", False)

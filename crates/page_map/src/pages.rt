@@ -1,0 +1,230 @@
+// The pages of a store, block by block.
+ghost use Rattle.std.specs.Prelude.{◌≡◌, ◌<◌, ◌≤◌, ◌++◌, ◌∷◌, ◌^◌, ◌-◌, ◌+◌, [], suc, List, ℕ, length, slice_index_or, slice_set, IfOk, IfErr, IfSome, IsSome, OnOk, OnErr};
+ghost use Rattle.seg_base.specs.declared.shape.Shape.{Shape as TheShape};
+ghost use Rattle.redo_record.specs.declared.record.Record.{Record};
+ghost use Rattle.redo_record.specs.declared.record.Record.TheVariants.{Commit};
+ghost use Rattle.page_set.specs.Pages.{dba_of};
+ghost use Rattle.page_set.specs.Changes.{changed_page, Fits};
+ghost use Rattle.page_set.specs.Folded.{touched_once};
+ghost use Rattle.page_map.specs.Pages.{page_at, over_in, HasPages, installed, made, AreThere, AreFit, Leads};
+ghost use Rattle.page_map.specs.declared.fault.PageFault.TheVariants as faults;
+
+use crate::PageFault;
+use page_set::{Page, Unfit, changed, commit_in_place, dba_of, touches};
+use redo_record::{CommitRecord, Record};
+use seg_base::{Dba, Lsn, NoMemory, Shape};
+use std::alloc::Global;
+use std::marker::Model;
+
+/// The page of each block.
+#[derive(Drop)]
+pub struct Pages {
+    pages: Vec<Page>,
+}
+
+impl Model for Pages {
+    ghost use Rattle.std.specs.Prelude.{List};
+    ghost use Rattle.page_set.specs.declared.page.Page.{Page};
+
+    ghost Value = { List Page };
+
+    ghost view = { λ p. p.pages.items };
+}
+
+/// Pages that a record has changed, not yet in their places.
+#[derive(Drop)]
+pub struct Changed {
+    pages: Vec<Page>,
+}
+
+impl Model for Changed {
+    ghost use Rattle.std.specs.Prelude.{List};
+    ghost use Rattle.page_set.specs.declared.page.Page.{Page};
+
+    ghost Value = { List Page };
+
+    ghost view = { λ p. p.pages.items };
+}
+
+/// The page of a block when the first pages are put over the one that was there.
+fn over<'p>(first: &'p [Page], base: &'p Page, dba: Dba) -> &'p Page
+    ensures { result.now ≡ over_in first.now base.now dba }
+{
+    match first {
+        [] => base,
+        [page, rest @ ..] => {
+            if dba_of(page) == dba {
+                return over(rest, page, dba);
+            }
+            over(rest, base, dba)
+        }
+    }
+}
+
+fn changed_one(
+    alloc: Global,
+    first: &[Page],
+    pages: &[Page],
+    rec: &Record,
+    lsn: Lsn,
+    dba: Dba,
+) -> Result<Page, PageFault>
+    ensures done { IfOk result (λ page. page ≡ changed_page rec.now lsn (over_in first.now (page_at pages.now dba) dba)) }
+    ensures there { OnOk result (dba < length pages.now) }
+    ensures fault { dba < length pages.now → Fits rec.now lsn (over_in first.now (page_at pages.now dba) dba) → IfErr result (λ e. e ≡ faults.NoMemory) }
+{
+    let at = dba.0 as usize;
+    if at >= pages.len() {
+        return Err(PageFault::BadPage { block: dba.0 });
+    }
+    match changed(alloc, over(first, &pages[at], dba), rec, lsn) {
+        Ok(page) => Ok(page),
+        Err(Unfit::NoMemory) => Err(PageFault::NoMemory),
+        Err(Unfit::Misfit) => Err(PageFault::BadPage { block: dba.0 }),
+    }
+}
+
+#[tactic(auto, using(crate::proofs::Folding::made_none, crate::proofs::Folding::made_next))]
+fn make(
+    alloc: Global,
+    first: &[Page],
+    pages: &[Page],
+    new: &mut Vec<Page>,
+    rec: &Record,
+    lsn: Lsn,
+    blocks: &[Dba],
+) -> Result<(), PageFault>
+    ensures done { OnOk result (new.new.items ≡ new.old.items ++ made rec.now lsn first.now pages.now blocks.now) }
+    ensures there { OnOk result (AreThere (length pages.now) blocks.now) }
+    ensures fault { AreFit rec.now lsn first.now pages.now blocks.now → IfErr result (λ e. e ≡ faults.NoMemory) }
+{
+    match blocks {
+        [] => Ok(()),
+        [block, rest @ ..] => {
+            let page = changed_one(alloc, first, pages, rec, lsn, *block)?;
+            new.push(page)?;
+            make(alloc, first, pages, new, rec, lsn, rest)
+        }
+    }
+}
+
+/// What a record makes of the pages that it touches, where it finds the first pages put over the others.
+fn made(
+    alloc: Global,
+    shape: &Shape,
+    first: &[Page],
+    pages: &[Page],
+    rec: &Record,
+    lsn: Lsn,
+) -> Result<Vec<Page>, PageFault>
+    ensures done { IfOk result (λ new. new.items ≡ [] ++ made rec.now lsn first.now pages.now (touched_once shape.now rec.now)) }
+    ensures there { OnOk result (AreThere (length pages.now) (touched_once shape.now rec.now)) }
+    ensures fault { AreFit rec.now lsn first.now pages.now (touched_once shape.now rec.now) → IfErr result (λ e. e ≡ faults.NoMemory) }
+{
+    let blocks = touches(alloc, rec, shape)?;
+    let mut new = Vec::new(alloc);
+    make(alloc, first, pages, &mut new, rec, lsn, &blocks)?;
+    Ok(new)
+}
+
+#[tactic(auto, using(crate::proofs::Folding::set_past))]
+fn put(pages: &mut Vec<Page>, page: Page)
+    ensures { pages.new.items ≡ slice_set pages.old.items (dba_of page) page }
+{
+    let at = dba_of(&page).0 as usize;
+    if at < pages.len() {
+        pages[at] = page;
+    }
+}
+
+impl Pages {
+    /// The pages of so many blocks that were never written.
+    #[tactic(auto, using(crate::proofs::Zeros::none_yet, crate::proofs::Zeros::one_zero, crate::proofs::Zeros::all_zeros))]
+    pub fn new(alloc: Global, shape: &Shape) -> Result<Pages, NoMemory>
+        ensures { IfOk result (HasPages shape.now []) }
+    {
+        let blocks = shape.blocks;
+        let mut pages = Vec::new(alloc);
+        for at in 0..blocks {
+            pages.push(Page::Zero(Dba(at)))?;
+        }
+        Ok(Pages { pages })
+    }
+
+    pub fn len(&self) -> usize
+        ensures { result ≡ length self.now }
+    {
+        self.pages.len()
+    }
+
+    /// The page of a block, None exactly where the block isn't there.
+    pub fn page(&self, dba: Dba) -> Option<&Page>
+        ensures there { dba < length self.now → IfSome result (λ page. page.now ≡ page_at self.now dba) }
+        ensures some { dba < length self.now → IsSome result }
+    {
+        self.pages.get(dba.0 as usize)
+    }
+
+    /// The pages that the record changes, changed. No page is put into its place.
+    #[tactic(auto, using(crate::proofs::Folding::leads))]
+    pub fn prepare(
+        &self,
+        alloc: Global,
+        shape: &Shape,
+        rec: &Record,
+        lsn: Lsn,
+    ) -> Result<Changed, PageFault>
+        ensures leads { (R : List Record) → HasPages shape.now R self.now → lsn ≡ suc (length R) → IfOk result (Leads shape.now R (rec.now ∷ R)) }
+        ensures fault { AreFit rec.now lsn [] self.now (touched_once shape.now rec.now) → IfErr result (λ e. e ≡ faults.NoMemory) }
+    {
+        let pages = made(alloc, shape, &[], &self.pages, rec, lsn)?;
+        Ok(Changed { pages })
+    }
+
+    /// The pages that the two records change, changed by the first and then by the second.
+    #[tactic(auto, using(crate::proofs::Folding::leads_two))]
+    pub fn prepare_two(
+        &self,
+        alloc: Global,
+        shape: &Shape,
+        first: &Record,
+        second: &Record,
+        lsn: Lsn,
+    ) -> Result<Changed, PageFault>
+        requires { lsn < 2 ^ 64 - 1 }
+        ensures leads { (R : List Record) → HasPages shape.now R self.now → lsn ≡ suc (length R) → IfOk result (Leads shape.now R (second.now ∷ first.now ∷ R)) }
+    {
+        let mut pages = made(alloc, shape, &[], &self.pages, first, lsn)?;
+        let mut more = made(alloc, shape, &pages, &self.pages, second, Lsn(lsn.0 + 1))?;
+        pages.append(&mut more)?;
+        Ok(Changed { pages })
+    }
+
+    /// A Commit put into the page of the transaction table, which takes no memory.
+    #[tactic(auto, using(crate::proofs::Folding::commits))]
+    pub fn commit(&mut self, c: CommitRecord, lsn: Lsn) -> Result<(), PageFault>
+        ensures leads { (sh : TheShape) (R : List Record) → HasPages sh R self.old → lsn ≡ suc (length R) → OnOk result (HasPages sh (Commit c ∷ R) self.new) }
+        ensures kept { OnErr result (self.new ≡ self.old) }
+        ensures fault { 1 < length self.old → Fits (Commit c) lsn (page_at self.old 1) → IfErr result (λ e. ⊥) }
+        ensures only { IfErr result (λ e. e ≡ faults.BadPage 1) }
+    {
+        if self.pages.len() < 2 {
+            return Err(PageFault::BadPage { block: 1 });
+        }
+        match commit_in_place(&mut self.pages[1], c, lsn) {
+            Ok(()) => Ok(()),
+            Err(_) => Err(PageFault::BadPage { block: 1 }),
+        }
+    }
+
+    /// Puts the changed pages into their places, which takes no memory.
+    #[tactic(auto, using(crate::proofs::Folding::installs))]
+    pub fn install(&mut self, changed: Changed)
+        ensures value { self.new ≡ installed changed self.old }
+        ensures leads { (sh : TheShape) (R Q : List Record) → HasPages sh R self.old → Leads sh R Q changed → HasPages sh Q self.new }
+    {
+        for page in changed.pages {
+            put(&mut self.pages, page);
+        }
+    }
+}

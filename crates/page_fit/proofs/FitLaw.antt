@@ -434,7 +434,7 @@ header_extend R e o (pages.Third x) lt h = absurd h
 header_extend R e o (pages.Header x) lt h = (let n : length x.extents ≡ length (extents_of R o) = ap (λ (xs : List ℕ). length xs) h.extents ∙ length-map (extents_of R o) (λ (y : Extent). y.number) in omega (arith, n, lt))
 header_extend R e o (pages.Rows x) lt h = absurd h
 
-few_extents : (sh : Shape) (x : ℕ) → Limits sh → is_extent sh x ≡ true → x < 2043
+pub few_extents : (sh : Shape) (x : ℕ) → Limits sh → is_extent sh x ≡ true → x < 2043
 few_extents sh x l e =
     let k = leb-true (first_block sh x + sh.extent) sh.blocks e in
     let f = l.extent_from in
@@ -641,11 +641,11 @@ space_lower R l (pages.Third x) some c h = absurd h
 space_lower R l (pages.Header x) some c h = absurd h
 space_lower R l (pages.Rows x) some c h = absurd h
 
-covered : (sh : Shape) (es : List Extent) → Limits sh → ((x : ℕ) → has_extent es x ≡ true → is_extent sh x ≡ true) → AreCovered (map (λ (e : Extent). e.number) es)
+pub covered : (sh : Shape) (es : List Extent) → Limits sh → ((x : ℕ) → has_extent es x ≡ true → is_extent sh x ≡ true) → AreCovered (map (λ (e : Extent). e.number) es)
 covered sh [] l w = tt
 covered sh (e ∷ es) l w = (few_extents sh e.number l (w e.number (or_left (eqb e.number e.number) _ (eq-eqb e.number e.number refl))), covered sh es l (λ x k. w x (or_right (eqb e.number x) _ k)))
 
-has_dropped : (n : ℕ) (es : List Extent) (x : ℕ) → has_extent (drop n es) x ≡ true → has_extent es x ≡ true
+pub has_dropped : (n : ℕ) (es : List Extent) (x : ℕ) → has_extent (drop n es) x ≡ true → has_extent es x ≡ true
 has_dropped zero es x h = h
 has_dropped (suc n) [] x h = h
 has_dropped (suc n) (e ∷ es) x h = or_right (eqb e.number x) _ (has_dropped n es x h)

@@ -30,13 +30,13 @@ use Rattle.page_fit.proofs.Sorted.{no_among}
 use Rattle.page_fit.proofs.HeaderApart.{first_is, home_in}
 
 -- a block that is not one of 2 to 36
-abbrev Far : ℕ → Type 0
+abbrev pub Far : ℕ → Type 0
 Far b = (b ≤ 1) ⊎ (37 ≤ b)
 
 -- d is one of those
-record Near (d : ℕ) : Type 0 where
-  from : 2 ≤ d
-  to : d < 37
+pub record Near (d : ℕ) : Type 0 where
+  pub from : 2 ≤ d
+  pub to : d < 37
 
 far : (b d : ℕ) → Near d → Far b → d ≡ b → ⊥
 far b d n (inl f) e = (let l = n.from in omega (arith, f, l, e))
@@ -83,13 +83,13 @@ maps_far sh R d p b l2 l3 index s n m here =
     ∙ no_among (first_of sh b) [] d (far (first_of sh b) d n (first_far sh R p b s here))
 
 -- the blocks 2 and 3 that a record touches
-abbrev low_of : Record → ℕ
+abbrev pub low_of : Record → ℕ
 low_of (Table t) = 2
 low_of (Extend e) = 3
 low_of (Lower l) = 3
 low_of _ = 0
 
-low_apart : (sh : Shape) (R : List Record) (r : Record) (d : ℕ) → is_shape sh ≡ true → AreAllowed sh (r ∷ R) → Near d → (d ≡ low_of r → ⊥) → is_among (touched sh r) d ≡ false
+pub low_apart : (sh : Shape) (R : List Record) (r : Record) (d : ℕ) → is_shape sh ≡ true → AreAllowed sh (r ∷ R) → Near d → (d ≡ low_of r → ⊥) → is_among (touched sh r) d ≡ false
 low_apart sh R (Table t) d s h n o = no_among 2 (t.header ∷ []) d o ∙ no_among t.header [] d (far t.header d n (inr (let e = h.1.kind.header in omega (arith, e))))
 low_apart sh R (Movement m) d s h n o = no_among m.header [] d (far m.header d n (block_far sh m.header 3 (extent_at (extents_of R m.obj) 0) h.1.kind.header))
 low_apart sh R (Advance m) d s h n o = no_among m.header [] d (far m.header d n (block_far sh m.header 3 (extent_at (extents_of R m.obj) 0) h.1.kind.header))
@@ -130,13 +130,13 @@ low_apart sh R (Migrate w) d s h n o = one_far d (w.undo.block ∷ blocks_of w.p
 low_apart sh R (Return w) d s h n o = one_far d (w.undo.block ∷ blocks_of w.parts) n (step_far sh R (Return w) (row_step w false) d s h n refl)
 low_apart sh R (Delete w) d s h n o = one_far d (w.undo.block ∷ blocks_of w.parts) n (step_far sh R (Delete w) (row_step w true) d s h n refl)
 
-near_two : Near 2
+pub near_two : Near 2
 near_two = record { from = omega arith; to = omega arith }
 
-near_three : Near 3
+pub near_three : Near 3
 near_three = record { from = omega arith; to = omega arith }
 
-untouched : (sh : Shape) (R : List Record) (r : Record) (d : ℕ) → is_among (touched sh r) d ≡ false → page_of sh R d ≡ page_of sh (r ∷ R) d
+pub untouched : (sh : Shape) (R : List Record) (r : Record) (d : ℕ) → is_among (touched sh r) d ≡ false → page_of sh R d ≡ page_of sh (r ∷ R) d
 untouched sh R r d h = sym (ap (λ (b : Bool). cond b (changed_page r (suc (length R)) (page_of sh R d)) (page_of sh R d)) h)
 
 -- ---- block 2

@@ -1,0 +1,11 @@
+//! Laws on what the pages of a lawful list of records say, by the model's words: the space bitmap. Each is the contract of a function
+//! that does nothing.
+#![tactic(auto)]
+
+ghost use Rattle.page_says.specs.Space.{SpacesSay};
+
+/// The page of the space bitmap has an extent in use exactly where some table has it, and counts how often marks were lowered. Where
+/// it was never written, no table has an extent.
+pub fn spaces_say()
+    ensures { SpacesSay }
+{}

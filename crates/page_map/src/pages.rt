@@ -1,5 +1,5 @@
 // The pages of a store, block by block.
-ghost use Rattle.std.specs.Prelude.{◌≡◌, ◌<◌, ◌≤◌, ◌++◌, ◌∷◌, ◌^◌, ◌-◌, ◌+◌, [], suc, List, ℕ, length, slice_index_or, slice_set, IfOk, IfErr, IfSome, IsSome, OnOk, OnErr};
+ghost use Rattle.std.specs.Prelude.{◌≡◌, ◌<◌, ◌≤◌, ◌++◌, ◌∷◌, ◌^◌, ◌-◌, ◌+◌, [], suc, List, ℕ, length, slice_index_or, slice_set, IfOk, IfErr, IfSome, IsSome, IsNone, OnOk, OnErr};
 ghost use Rattle.seg_base.specs.declared.shape.Shape.{Shape as TheShape};
 ghost use Rattle.redo_record.specs.declared.record.Record.{Record};
 ghost use Rattle.redo_record.specs.declared.record.Record.TheVariants.{Commit};
@@ -161,6 +161,7 @@ impl Pages {
     pub fn page(&self, dba: Dba) -> Option<&Page>
         ensures there { dba < length self.now → IfSome result (λ page. page.now ≡ page_at self.now dba) }
         ensures some { dba < length self.now → IsSome result }
+        ensures none { length self.now ≤ dba → IsNone result }
     {
         self.pages.get(dba.0 as usize)
     }
@@ -193,6 +194,7 @@ impl Pages {
     ) -> Result<Changed, PageFault>
         requires { lsn < 2 ^ 64 - 1 }
         ensures leads { (R : List Record) → HasPages shape.now R self.now → lsn ≡ suc (length R) → IfOk result (Leads shape.now R (second.now ∷ first.now ∷ R)) }
+        ensures fault { AreFit first.now lsn [] self.now (touched_once shape.now first.now) → AreFit second.now (lsn + 1) (made first.now lsn [] self.now (touched_once shape.now first.now)) self.now (touched_once shape.now second.now) → IfErr result (λ e. e ≡ faults.NoMemory) }
     {
         let mut pages = made(alloc, shape, &[], &self.pages, first, lsn)?;
         let mut more = made(alloc, shape, &pages, &self.pages, second, Lsn(lsn.0 + 1))?;

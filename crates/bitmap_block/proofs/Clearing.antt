@@ -2,13 +2,13 @@
 use Rattle.std.proofs.Common.{◌≡◌, ℕ, zero, suc, ◌<◌, ◌≤◌, List, [], ◌∷◌, ◌++◌, length, take, drop, slice_index, sym, ap, subst, arith}
 use Rattle.std.specs.Prelude.{replicate}
 use Rattle.std.proofs.lemmas.List.{length-replicate}
-use Rattle.bitmap_block.specs.Codes.{AreCodes, HasCodes, cleared_from}
+use Rattle.bitmap_block.specs.Codes.{GREATEST_CODE, AreCodes, HasCodes, cleared_from}
 use Rattle.bitmap_block.proofs.Reading.{no_codes}
 
 rest_are : (x : ℕ) (xs : List ℕ) → AreCodes (x ∷ xs) → AreCodes xs
 rest_are x xs all i lt = all (suc i) (omega (arith, lt))
 
-are_cleared : (n : ℕ) (xs : List ℕ) (count : ℕ) → AreCodes xs → n ≤ length xs → n ≤ count → (i : ℕ) → i < length (cleared_from count n xs) → slice_index (cleared_from count n xs) i ≤ 5
+are_cleared : (n : ℕ) (xs : List ℕ) (count : ℕ) → AreCodes xs → n ≤ length xs → n ≤ count → (i : ℕ) → i < length (cleared_from count n xs) → slice_index (cleared_from count n xs) i ≤ GREATEST_CODE
 are_cleared zero xs count all le few i lt = (no_codes count).each i lt
 are_cleared (suc n) [] count all le few i lt = absurd (omega (arith, le))
 are_cleared (suc n) (x ∷ xs) zero all le few i lt = absurd (omega (arith, few))

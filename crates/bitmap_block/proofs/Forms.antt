@@ -1,9 +1,9 @@
 -- The pages of the bitmaps, written and read part by part.
 use Rattle.std.proofs.Common.{◌≡◌, ℕ, List, [], ◌++◌, drop, refl, ap, ◌∙◌, w32, w64}
 use Rattle.seg_words.proofs.Lemmas.{to_be_bytes}
-use Rattle.seg_words.specs.Types.{number_in}
+use Rattle.seg_words.specs.Types.{number_in, PAGE_HEAD_SIZE}
 use Rattle.page_bytes.specs.Types.{IsFront, head_bytes, page_of}
-use Rattle.bitmap_block.specs.Types.{codes_in, ExtentMap, Summary, spelling_of_map, spelling_of_summary, map_in, summary_in}
+use Rattle.bitmap_block.specs.Types.{CODES_OF_L1, MAP_HEAD_SIZE, codes_in, ExtentMap, Summary, spelling_of_map, spelling_of_summary, map_in, summary_in}
 
 -- bytes were put behind those that a page begins with
 abbrev pub Puts : List ℕ → ℕ → List ℕ → List ℕ → ℕ → Type 0
@@ -21,12 +21,12 @@ pub summary_written : (kind : ℕ) (s : Summary) (p0 p1 p2 head : List ℕ) (a0 
 unfolding spelling_of_summary
 summary_written kind s p0 p1 p2 head a0 a1 a2 start first second h = (second head (first [] start)).bytes ∙ ap (λ (x : List ℕ). page_of (x ++ s.codes)) h
 
-pub map_read : (bytes codes : List ℕ) (dba lsn incarnation : ℕ) → dba ≡ number_in w32 bytes 4 → lsn ≡ number_in w64 bytes 8 → incarnation ≡ number_in w64 bytes 16 → codes ≡ codes_in 64 (drop 24 bytes)
+pub map_read : (bytes codes : List ℕ) (dba lsn incarnation : ℕ) → dba ≡ number_in w32 bytes 4 → lsn ≡ number_in w64 bytes 8 → incarnation ≡ number_in w64 bytes PAGE_HEAD_SIZE → codes ≡ codes_in CODES_OF_L1 (drop MAP_HEAD_SIZE bytes)
     → (let m : ExtentMap = record { dba = dba; lsn = lsn; incarnation = incarnation; codes = codes } in m ≡ map_in bytes)
 unfolding map_in
 map_read bytes codes dba lsn incarnation d l i c = rw (d, l, i, c) refl
 
-pub summary_read : (n : ℕ) (bytes codes : List ℕ) (dba lsn : ℕ) → dba ≡ number_in w32 bytes 4 → lsn ≡ number_in w64 bytes 8 → codes ≡ codes_in n (drop 16 bytes)
+pub summary_read : (n : ℕ) (bytes codes : List ℕ) (dba lsn : ℕ) → dba ≡ number_in w32 bytes 4 → lsn ≡ number_in w64 bytes 8 → codes ≡ codes_in n (drop PAGE_HEAD_SIZE bytes)
     → (let s : Summary = record { dba = dba; lsn = lsn; codes = codes } in s ≡ summary_in n bytes)
 unfolding summary_in
 summary_read n bytes codes dba lsn d l c = rw (d, l, c) refl

@@ -2,10 +2,12 @@
 ghost use Rattle.std.specs.Prelude.{◌≡◌};
 ghost use Rattle.bitmap_block.specs.Codes.{best_of, good_code};
 
+use crate::limit::LEAST_GOOD_CODE;
+
 fn good_code(code: u8) -> u8
     ensures { result ≡ good_code code }
 {
-    if code < 2 { 0 } else { code }
+    if code < LEAST_GOOD_CODE { 0 } else { code }
 }
 
 /// The greatest code from 2 on, else 0: a full block and one that isn't formatted are no good.

@@ -2,6 +2,8 @@
 ghost use Rattle.std.specs.Prelude.{◌≡◌, ◌<◌, ◌≤◌, length, take};
 ghost use Rattle.bitmap_block.specs.Codes.{codes_in, AreCodes};
 
+use crate::limit::GREATEST_CODE;
+
 /// Reads as many codes as there is room for, each as the nearest that there is.
 #[tactic(auto, using(crate::proofs::Reading::none_read, crate::proofs::Reading::read_next, crate::proofs::Reading::all_read))]
 pub fn read_codes(bytes: &[u8], codes: &mut [u8])
@@ -10,6 +12,6 @@ pub fn read_codes(bytes: &[u8], codes: &mut [u8])
     ensures range { AreCodes codes.new }
 {
     for i in 0..codes.len() {
-        codes[i] = bytes[i].min(5);
+        codes[i] = bytes[i].min(GREATEST_CODE);
     }
 }

@@ -1,14 +1,17 @@
 // The bitmap of an extent.
 ghost use Rattle.std.specs.Prelude.{◌≡◌, ◌<◌, ◌≤◌, replicate, slice_index, slice_set};
-ghost use Rattle.bitmap_block.specs.Codes.{best_of};
+ghost use Rattle.bitmap_block.specs.Codes.{CODES_OF_L1, GREATEST_CODE, best_of};
 ghost use Rattle.bitmap_block.specs.Pages.{spelling_of_map, IsMap};
 
 use crate::best::best_of;
 use crate::code::read_codes;
+use crate::limit::{CODES_OF_L1, MAP_HEAD_SIZE};
 use page_bytes::{PageForm, add, begin, head_bytes, in_range, number_u32, number_u64};
-use seg_base::{BLOCK_SIZE, Dba, Lsn, NoMemory};
+use seg_base::{BLOCK_SIZE, Dba, Lsn, NoMemory, PAGE_HEAD_SIZE};
 use std::alloc::Global;
 use std::marker::Model;
+
+const KIND: u8 = 7;
 
 /// The bitmap block of an extent: the LSN of the record by which a table got the extent, and the class code of each of
 /// its blocks, 0 for those that hold no data or aren't formatted.
@@ -17,25 +20,25 @@ pub struct L1 {
     dba: Dba,
     lsn: Lsn,
     incarnation: Lsn,
-    codes: [u8; 64],
+    codes: [u8; CODES_OF_L1],
 }
 
 impl Model for L1 {
-    ghost use Rattle.bitmap_block.specs.Codes.{HasCodes};
+    ghost use Rattle.bitmap_block.specs.Codes.{CODES_OF_L1, HasCodes};
     ghost use Rattle.bitmap_block.specs.Pages.{ExtentMap};
 
     ghost Value = { ExtentMap };
 
     ghost view = { λ m. record { dba = m.dba; lsn = m.lsn; incarnation = m.incarnation; codes = m.codes } };
 
-    ghost invariant = { λ m. HasCodes 64 m.codes };
+    ghost invariant = { λ m. HasCodes CODES_OF_L1 m.codes };
 }
 
 impl L1 {
     pub fn new(dba: Dba, incarnation: Lsn) -> L1
-        ensures { result ≡ record { dba = dba; lsn = 0; incarnation = incarnation; codes = replicate 64 0 } }
+        ensures { result ≡ record { dba = dba; lsn = 0; incarnation = incarnation; codes = replicate CODES_OF_L1 0 } }
     {
-        let codes = [0; 64];
+        let codes = [0; CODES_OF_L1];
         L1 {
             dba,
             lsn: Lsn(0),
@@ -83,17 +86,17 @@ impl L1 {
 
     /// The code of the extent's ith block.
     pub fn get(&self, i: u16) -> u8
-        requires { i < 64 }
+        requires { i < CODES_OF_L1 }
         ensures code { result ≡ slice_index self.now.codes i }
-        ensures range { result ≤ 5 }
+        ensures range { result ≤ GREATEST_CODE }
     {
         self.codes[usize::from(i)]
     }
 
     /// Keeps a code of the extent's ith block.
     pub fn set(&mut self, i: u16, code: u8)
-        requires place { i < 64 }
-        requires code { code ≤ 5 }
+        requires place { i < CODES_OF_L1 }
+        requires code { code ≤ GREATEST_CODE }
         ensures { self.new ≡ record self.old { codes = slice_set self.old.codes i code } }
     {
         self.codes[usize::from(i)] = code;
@@ -130,13 +133,13 @@ impl PageForm for L1 {
     ghost HasSpelling = { IsMap };
 
     fn read(_alloc: Global, bytes: &[u8; BLOCK_SIZE]) -> Result<L1, NoMemory> {
-        let mut codes = [0; 64];
-        let (_, rest) = bytes.split_at(24);
+        let mut codes = [0; CODES_OF_L1];
+        let (_, rest) = bytes.split_at(MAP_HEAD_SIZE);
         read_codes(rest, &mut codes);
         Ok(L1 {
             dba: Dba(number_u32(bytes, 4)),
             lsn: Lsn(number_u64(bytes, 8)),
-            incarnation: Lsn(number_u64(bytes, 16)),
+            incarnation: Lsn(number_u64(bytes, PAGE_HEAD_SIZE)),
             codes,
         })
     }
@@ -148,11 +151,17 @@ impl PageForm for L1 {
     ghost reads_again = { map_again };
 }
 
-fn write_map(dba: Dba, lsn: Lsn, incarnation: u64, codes: &[u8; 64], out: &mut [u8; BLOCK_SIZE])
+fn write_map(
+    dba: Dba,
+    lsn: Lsn,
+    incarnation: u64,
+    codes: &[u8; CODES_OF_L1],
+    out: &mut [u8; BLOCK_SIZE],
+)
     ensures { out.new ≡ spelling_of_map (record { dba = dba; lsn = lsn; incarnation = incarnation; codes = codes.now }) }
 {
     let start = begin(out);
-    let head = add(out, start, &head_bytes(7, 0, 0, dba, lsn));
+    let head = add(out, start, &head_bytes(KIND, 0, 0, dba, lsn));
     let front = add(out, head, &incarnation.to_be_bytes());
     add(out, front, codes);
 }

@@ -1,5 +1,0 @@
-use Rattle.bitmap_block.proofs.Reading.{no_codes}
-use Rattle.bitmap_block.proofs.third_level.L3.new.Goals as goal
-
-pub invariant_of-result : goal.invariant_of-result
-invariant_of-result c = no_codes 3

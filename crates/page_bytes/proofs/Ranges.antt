@@ -2,7 +2,7 @@
 use Rattle.std.proofs.Common.{◌≡◌, ℕ, zero, suc, ◌<◌, ◌≤◌, ◌^◌, List, [], ◌∷◌, length, get_or, take, drop, refl, arith, w16, w32, w64}
 use Rattle.seg_words.proofs.Lemmas.{from_be_bytes, AllByRecursion}
 use Rattle.seg_words.specs.Types.{Kind, Empty, Row, Head, Body, Writer, By, At, number_in, writer_number}
-use Rattle.page_bytes.specs.Types.{SlotFields, pieces_in, fields_in, kind_as, writer_as, undo_as, link_as, len_as, room_as, row_len, slot_as, UndoFits, LinkFits, IsSlot, entry_from, IsListEntry}
+use Rattle.page_bytes.specs.Types.{SlotFields, pieces_in, fields_in, kind_as, writer_as, undo_as, link_as, len_as, room_as, row_len, slot_as, UndoFits, LinkFits, IsSlot, UndoIsThere, LinkIsThere, HasSlotForm, entry_from, IsListEntry}
 
 abbrev pub IsBytes : List ℕ → Type 0
 IsBytes bytes = (i : ℕ) → get_or bytes i 0 < 256
@@ -94,3 +94,20 @@ slot_fits g row h le =
       room_fits = room_below (writer_as f.tag f.writer) (length row) f.room small (number_16 g 38 h);
       room = room_twice (writer_as f.tag f.writer) (length row) f.room;
     }
+
+-- whatever the fields are, the slot that they read as is of the form that has a spelling
+undo_there : (block seq nth : ℕ) → UndoIsThere (undo_as block seq nth)
+undo_there zero seq nth = tt
+undo_there (suc b) seq nth = omega arith
+
+link_there : (dba slot : ℕ) → LinkIsThere (link_as dba slot)
+link_there zero slot = tt
+link_there (suc d) slot = omega arith
+
+pub slot_formed : (f : SlotFields) (row : List ℕ) → length row ≤ row_len f → HasSlotForm (slot_as f row)
+slot_formed f row le = record {
+  undo = undo_there f.undo_block f.undo_seq f.undo_nth;
+  link = link_there f.link_block f.link_slot;
+  len = len_twice (kind_as f.kind) f.len (length row) le;
+  room = room_twice (writer_as f.tag f.writer) (length row) f.room;
+}

@@ -85,3 +85,19 @@ pub record IsSlot (s : Slot) : Type 0 where
   pub len : len_as s.kind (length s.bytes) ≡ length s.bytes
   pub room_fits : s.room < 2 ^ 16
   pub room : room_as s.writer (length s.bytes) s.room ≡ s.room
+
+-- The form of the slots that have a spelling, as far as the types of their numbers don't say it: what is there doesn't stand
+-- at block 0, which is written for none, an Empty slot and a Head have no row, and the room is as the writer asks.
+abbrev pub UndoIsThere : Option UndoAddr → Type 0
+UndoIsThere None = Unit {0}
+UndoIsThere (Some a) = 0 < a.block
+
+abbrev pub LinkIsThere : Option Rowid → Type 0
+LinkIsThere None = Unit {0}
+LinkIsThere (Some r) = 0 < r.dba
+
+pub record HasSlotForm (s : Slot) : Type 0 where
+  pub undo : UndoIsThere s.undo
+  pub link : LinkIsThere s.link
+  pub len : len_as s.kind (length s.bytes) ≡ length s.bytes
+  pub room : room_as s.writer (length s.bytes) s.room ≡ s.room

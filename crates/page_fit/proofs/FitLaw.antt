@@ -8,9 +8,10 @@ use Rattle.seg_base.specs.declared.slot.Writer.{Writer}
 use Rattle.seg_base.specs.declared.slot.Writer.TheVariants.{By, At}
 use Rattle.seg_base.specs.Blocks.{Block}
 use Rattle.seg_base.specs.Places.{first_block, is_extent, is_shape}
+use Rattle.seg_words.specs.Types.{AllByRecursion}
 use Rattle.row_block.specs.RowPage.{RowPage}
 use Rattle.undo_block.specs.declared.part.Part.{Part}
-use Rattle.undo_block.specs.Parts.{used_by}
+use Rattle.undo_block.specs.Parts.{used_by, HasPartForm}
 use Rattle.undo_block.specs.UndoPage.{UndoPage}
 use Rattle.txn_block.specs.Tables.{TxnTable}
 use Rattle.bitmap_block.specs.Pages.{ExtentMap, Summary}
@@ -316,7 +317,8 @@ undo_fit sh R r st P s h e f =
     let y : Says R d (pages.Undo x.0) = subst (Says R d) x.1 (says sh R d) in
     let old : map kept.as_kept (undo_held R d) ≡ x.0.parts = kept_same (undo_held R d) ∙ sym y.1 in
     let new : map kept.as_kept (held_by st st.parts) ≡ undo.parts_of st = kept_same (held_by st st.parts) ∙ parts_same st st.parts in
-    subst P (sym x.1) (f x.0 (sym y.0, subst (λ (ps : List Part). used_by ps + used_by (undo.parts_of st) ≤ 4032) old (subst (λ (ps : List Part). used_by (map kept.as_kept (undo_held R d)) + used_by ps ≤ 4032) new t.fits)))
+    let room = subst (λ (ps : List Part). used_by ps + used_by (undo.parts_of st) ≤ 4032) old (subst (λ (ps : List Part). used_by (map kept.as_kept (undo_held R d)) + used_by ps ≤ 4032) new t.fits) in
+    subst P (sym x.1) (f x.0 (sym y.0, room, subst (λ (ps : List Part). AllByRecursion HasPartForm ps) new t.forms))
 
 -- the page of the transaction table
 table_fit : (sh : Shape) (R : List Record) (r : Record) (P : Page → Type 0) → is_shape sh ≡ true → AreAllowed sh (r ∷ R) → changes_table r ≡ true → ((t : TxnTable) → P (pages.Txns t)) → P (page_of sh R 1)

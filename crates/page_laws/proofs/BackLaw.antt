@@ -2,6 +2,7 @@
 use Rattle.std.proofs.Common.{◌≡◌, ℕ, zero, suc, ◌+◌, ◌-◌, ◌*◌, ◌<◌, ◌≤◌, max, true, false, cond, ◌||◌, eqb, List, [], ◌∷◌, length, Option, Some, None, refl, sym, ◌∙◌, ap, ap₂, subst, arith, inl, inr, le_refl, true≢false, eqb-true, eq-eqb}
 use Rattle.seg_words.proofs.Lemmas.{cond-true, cases_Bool, and_parts}
 use Rattle.seg_words.specs.Types.{Shape, Slot, number_of_writer, as_told, row_size, writer_has_ended}
+use Rattle.page_bytes.specs.Types.{HasSlotForm}
 use Rattle.row_block.specs.Types.{laid_out}
 use Rattle.redo_model.specs.Records.{Record, Back, RowPart, BackPart, BackRecord}
 use Rattle.redo_model.specs.Model.{Step, Effect, effect_of, Placed, restored, txn_count, is_active, ended_in, standing_steps, standing, is_place, placed_in, image, slots_reached, slot_count, entry_count, makers, without, place_all, slots_of, entries_of, block_of, taken_back, AreAllowed}
@@ -21,6 +22,7 @@ use Rattle.redo_laws.proofs.lists.Sums.{sum_below, sum_less, sum_more}
 use Rattle.redo_laws.proofs.spread.Whole.{record_fits, whole}
 use Rattle.page_laws.specs.Parts.{partly_back, BackPartsFitInTurn}
 use Rattle.redo_laws.proofs.lists.Among.{one_has, some_have}
+use Rattle.page_laws.proofs.FormLaw.{effect_formed}
 use Rattle.page_laws.proofs.PartsLaw.{own_length, step_known, put_room, slots_laid}
 
 -- an image has room for its row
@@ -178,5 +180,6 @@ back_parts_fit_in_turn sh R k p done h o i =
       at = (let c : length (place_all (restored done) b (slots_of R b)) ≡ slots_reached (restored done) b (slot_count R b) = count_is (Back (with_parts k done) ∷ R) b in let u = back_up done b (slot_count R b) in let t = one.fits.there in omega (arith, c, u, t));
       most = one.fits.few;
       bytes = one.within;
+      form = one_has (λ (q : BackPart). HasSlotForm q.new) p k.parts o (effect_formed sh R (Back k) (TakesBack k) h refl);
       size = subst (λ (ss : List Slot). laid_out (record { slots = ss; entries = entries_of R b }) ≤ 4032) (cond-true _ _ _ (eq-eqb b b refl)) size;
     }

@@ -1,3 +1,4 @@
+pub mod FormLaw
 pub mod PartsLaw
 pub mod BackLaw
 pub mod FitsLaw

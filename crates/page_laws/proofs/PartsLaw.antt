@@ -3,6 +3,7 @@ use Rattle.std.proofs.Common.{◌≡◌, ◌⊎◌, ℕ, suc, ◌+◌, ◌-◌, 
 use Rattle.seg_words.proofs.Lemmas.{cond-true, cases_Bool}
 use Rattle.seg_words.specs.Types.{Shape, Slot, ListEntry, Writer, By, At, new_slot, new_entry, put, row_size, slot_size, writer_has_ended}
 use Rattle.seg_base.proofs.Puts.{length-put}
+use Rattle.page_bytes.specs.Types.{HasSlotForm}
 use Rattle.row_block.specs.Types.{laid_out, CanPut, CanEnter}
 use Rattle.redo_model.specs.Records.{Record, Insert, RowPart, RowBody}
 use Rattle.redo_model.specs.Model.{Step, effect_of, written, txn_count, is_active, ended_in, standing, is_place, placed_in, image, slots_reached, slot_count, reach_entry, entries_reached, count_entered, entry_count, makers, place_all, enter_at, enter_all, enter_by, slots_of, entries_of, block_of, AreAllowed}
@@ -22,6 +23,7 @@ use Rattle.redo_laws.proofs.allowed.Shapes.{Puts}
 use Rattle.redo_laws.proofs.lists.Sums.{sum_below, sum_less, sum_more, sum_places, sum_same}
 use Rattle.redo_laws.proofs.spread.Whole.{record_fits, whole}
 use Rattle.page_laws.specs.Parts.{partly, PartsFitInTurn}
+use Rattle.page_laws.proofs.FormLaw.{effect_formed}
 use Rattle.redo_laws.proofs.lists.Among.{one_has, some_have, some_both}
 
 -- a step with other parts
@@ -269,8 +271,8 @@ each_fits : (R : List Record) (ps : List RowPart) → EachFits R ps → Every (P
 each_fits R [] h = tt
 each_fits R (p ∷ ps) h = (h.0, each_fits R ps h.1)
 
-can_put : (sh : Shape) (R : List Record) (st : Step) (p : RowPart) (ps qs : List RowPart) → StepKnown sh R st → PartFits R p → IsOneOf p st.parts → AreSome st.parts ps → AreSome st.parts qs → CanPut (partly st.by ps qs p.dba (block_of R p.dba)) p.slot p.new
-can_put sh R st p ps qs x f o i j =
+can_put : (sh : Shape) (R : List Record) (st : Step) (p : RowPart) (ps qs : List RowPart) → StepKnown sh R st → PartFits R p → HasSlotForm p.new → IsOneOf p st.parts → AreSome st.parts ps → AreSome st.parts qs → CanPut (partly st.by ps qs p.dba (block_of R p.dba)) p.slot p.new
+can_put sh R st p ps qs x f g o i j =
     let b = p.dba in
     let n = slot_count R b in
     let small = partly_small sh R st (p ∷ ps) qs b x (o, i) j in
@@ -279,6 +281,7 @@ can_put sh R st p ps qs x f o i j =
       at = (let c : length (place_all (written ps) b (slots_of R b)) ≡ slots_reached (written ps) b n = count_is (Insert (body 0 ps) ∷ R) b in let u = slots_up ps b n in let t = f.there in omega (arith, c, u, t));
       most = f.few;
       bytes = put_room R st pu.0 p pu.1;
+      form = g;
       size = subst (λ (ss : List Slot). laid_out (record { slots = ss; entries = enter_by st.by qs b (entries_of R b) }) ≤ 4032) (cond-true _ _ _ (eq-eqb b b refl)) small.size;
     }
 
@@ -308,4 +311,5 @@ parts_fit_in_turn sh R r st p ps qs h e o i j =
     let x = step_known sh R r st h e in
     let f : EachFits R st.parts = subst (BlocksFit R) e (records_fit_blocks sh R r h) in
     let pf = one_has (PartFits R) p st.parts o (each_fits R st.parts f) in
-    record { slot = can_put sh R st p ps qs x pf o i j; entry = λ t n by en. can_enter sh R st p ps qs t n x pf o i j by en }
+    let g = one_has (λ (q : RowPart). HasSlotForm q.new) p st.parts o (effect_formed sh R r (Adds st) h e).0 in
+    record { slot = can_put sh R st p ps qs x pf g o i j; entry = λ t n by en. can_enter sh R st p ps qs t n x pf o i j by en }

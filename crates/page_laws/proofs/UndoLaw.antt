@@ -21,6 +21,7 @@ use Rattle.redo_laws.proofs.spelled.SoundLaw.{blocks_are_sound}
 use Rattle.redo_laws.proofs.spelled.SpelledLaw.{spelled}
 use Rattle.redo_laws.proofs.spelled.SpelledRows.{StepSpelled}
 use Rattle.page_laws.specs.UndoPages.{txn_of, as_kept, AreBytes, UndoPagesAreSpelled, UndoTakesParts}
+use Rattle.page_laws.proofs.FormLaw.{parts_formed}
 use Rattle.page_laws.proofs.PartsLaw.{step_known}
 
 -- a sound image is a slot that has a spelling
@@ -175,4 +176,5 @@ undo_takes_parts sh R r st l h e =
       in_use = current_used R st.undo.block b.undo.current;
       place = b.undo.place ∙ ap length ((undo_is_read sh R h.0).sizes st.undo.block) ∙ length_sized (undo_held R st.undo.block);
       fits = omega (arith, used, size, fits);
+      forms = parts_formed sh R r st l h e;
     }

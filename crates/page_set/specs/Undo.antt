@@ -4,7 +4,8 @@ use Rattle.seg_base.specs.declared.undo.UndoPlace.{UndoPlace}
 use Rattle.seg_base.specs.declared.slot.Writer.{Writer}
 use Rattle.seg_base.specs.declared.slot.Writer.TheVariants.{By, At}
 use Rattle.undo_block.specs.declared.part.Part.{Part}
-use Rattle.undo_block.specs.Parts.{used_by}
+use Rattle.seg_words.specs.Types.{AllByRecursion}
+use Rattle.undo_block.specs.Parts.{used_by, HasPartForm}
 use Rattle.undo_block.specs.UndoPage.{UndoPage}
 use Rattle.redo_record.specs.declared.part.RowPart.{RowPart}
 use Rattle.redo_model.specs.Effects.{Step, Effect, Adds}
@@ -30,8 +31,9 @@ undo_changed _ u ps = ps
 abbrev pub undo_after : Effect → ℕ → UndoPage → UndoPage
 undo_after e lsn u = record { dba = u.dba; lsn = lsn; sequence = u.sequence; parts = undo_changed e u.dba u.parts }
 
+-- the parts of a step have a spelling, and fit in its undo block
 abbrev pub StepFits : Step → UndoPage → Type 0
-StepFits st u = (st.undo.block ≡ u.dba) × (used_by u.parts + used_by (parts_of st) ≤ 4032)
+StepFits st u = (st.undo.block ≡ u.dba) × (used_by u.parts + used_by (parts_of st) ≤ 4032) × AllByRecursion HasPartForm (parts_of st)
 
 abbrev pub PartsFit : Effect → UndoPage → Type 0
 PartsFit (Adds st) u = StepFits st u

@@ -1,7 +1,8 @@
 // What a record does to an undo block.
 ghost use Rattle.std.specs.Prelude.{◌≡◌, ◌+◌, ◌≤◌, ◌++◌, length, cond, eqb, OnOk, IfErr, List, false, true};
 ghost use Rattle.redo_model.specs.Effects.{Step, Adds, effect_of, row_step, move_step};
-ghost use Rattle.undo_block.specs.Parts.{used_by};
+ghost use Rattle.seg_words.specs.Types.{AllByRecursion};
+ghost use Rattle.undo_block.specs.Parts.{used_by, HasPartForm};
 ghost use Rattle.page_set.specs.Undo.{kept_parts, parts_of, undo_after, undo_changed, StepFits, txn_of};
 ghost use Rattle.page_set.specs.Faults.{Kept};
 ghost use Rattle.page_set.specs.Changes.{UndoFits};
@@ -11,7 +12,7 @@ use crate::fault::Unfit;
 use redo_record::{MoveRecord, Record, RowBody, RowPart};
 use seg_base::{Lsn, NoMemory, TxnId, UndoPlace};
 use std::alloc::Global;
-use undo_block::{Part, UndoBlock, UndoFault};
+use undo_block::{Part, UndoBlock, UndoFault, have_part_form};
 
 /// Adds the parts that a record keeps: the old images, in order.
 #[tactic(auto, using(crate::proofs::Adding::added_next, crate::proofs::Adding::added_none))]
@@ -44,9 +45,12 @@ fn keep(
 
 fn append(block: &mut UndoBlock, kept: Vec<Part>) -> Result<(), Unfit>
     ensures done { OnOk result (block.new ≡ record block.old { parts = block.old.parts ++ kept.items }) }
-    ensures fault { used_by block.old.parts + used_by kept.items ≤ 4032 → IfErr result (λ e. e ≡ faults.NoMemory) }
+    ensures fault { used_by block.old.parts + used_by kept.items ≤ 4032 → AllByRecursion HasPartForm kept.items → IfErr result (λ e. e ≡ faults.NoMemory) }
     ensures kept { Kept result block.old block.new }
 {
+    if !have_part_form(&kept) {
+        return Err(Unfit::Misfit);
+    }
     match block.append_owned(kept) {
         Ok(_) => Ok(()),
         Err(UndoFault::NoMemory) => Err(Unfit::NoMemory),
@@ -65,7 +69,7 @@ fn add(
 ) -> Result<(), Unfit>
     requires { length parts.now ≤ 3 }
     ensures done { OnOk result (block.new ≡ record block.old { parts = cond (eqb at block.old.dba) (block.old.parts ++ kept_parts txn previous (length parts.now) parts.now) block.old.parts }) }
-    ensures fault { at ≡ block.old.dba → used_by block.old.parts + used_by (kept_parts txn previous (length parts.now) parts.now) ≤ 4032 → IfErr result (λ e. e ≡ faults.NoMemory) }
+    ensures fault { at ≡ block.old.dba → used_by block.old.parts + used_by (kept_parts txn previous (length parts.now) parts.now) ≤ 4032 → AllByRecursion HasPartForm (kept_parts txn previous (length parts.now) parts.now) → IfErr result (λ e. e ≡ faults.NoMemory) }
     ensures kept { Kept result block.old block.new }
 {
     if at != block.dba().0 {

@@ -4,10 +4,19 @@ use Rattle.seg_words.proofs.Lemmas.{AllByRecursion, cases_Bool, cases_lt, nat_te
 use Rattle.seg_words.specs.Types.{Slot, ListEntry, Writer, By, At, Block, new_slot, new_entry, put, put_slot, put_entry, writer_has_ended, slot_size, used_of, free_of, entry_for, number_of_writer, as_told, clean_slot, clean_entry, clean_block, BLOCK_ROOM, SLOT_SIZE, MOST_SLOTS, LIST_ENTRY_SIZE, LEAST_LIST_ENTRIES, MOST_LIST_ENTRIES}
 use Rattle.seg_base.proofs.Puts.{put_set, put_push, length-put}
 use Rattle.seg_base.proofs.Rooms.{entry_for-within}
+use Rattle.page_bytes.specs.Types.{room_as, HasSlotForm}
 use Rattle.row_block.specs.Types.{RowPage, laid_out, IsImage, IsHeld, CanPut, CanEnter, counted, growth_of, need_of}
 
 abbrev pub Roomy : Slot → Type 0
 Roomy s = length s.bytes ≤ s.room
+
+-- a slot of the form that has a spelling keeps its row within its room
+pub roomy_form : (s : Slot) → HasSlotForm s → Roomy s
+roomy_form s h = go s.writer (length s.bytes) s.room h.room
+  where
+    go : (w : Writer) (len room : ℕ) → room_as w len room ≡ room → len ≤ room
+    go (By t) len room e = omega (arith, e)
+    go (At c) len room e = omega (arith, e)
 
 all_ended : (w : Writer) → writer_has_ended (λ t. true) w ≡ true
 all_ended (By t) = refl
@@ -52,12 +61,19 @@ roomy_put ss k v le h all = elim (cases_Bool (ltb k (length ss))) [
   | inr n ↦ (let last : k ≡ length ss = grind (arith, nat_tests) in rw (put_push new_slot ss k v last) (All-push Roomy ss v all h))
 ]
 
+formed_put : (ss : List Slot) (k : ℕ) (v : Slot) → k ≤ length ss → HasSlotForm v → All HasSlotForm ss → All HasSlotForm (put new_slot ss k v)
+formed_put ss k v le h all = elim (cases_Bool (ltb k (length ss))) [
+  | inl y ↦ (let lt : k < length ss = grind (arith, nat_tests) in rw (put_set new_slot ss k v lt) (All-set HasSlotForm ss k v h all))
+  | inr n ↦ (let last : k ≡ length ss = grind (arith, nat_tests) in rw (put_push new_slot ss k v last) (All-push HasSlotForm ss v all h))
+]
+
 pub held_put : (b : Block) (k : ℕ) (image : Slot) → IsHeld b → CanPut b k image → IsHeld (put_slot k image b)
 held_put b k image h can = record {
   slots = omega (arith, length-put new_slot b.slots k image, h.slots, can.most);
   least = h.least;
   entries = h.entries;
   rooms = roomy_put b.slots k image can.at can.bytes h.rooms;
+  forms = formed_put b.slots k image can.at can.form h.forms;
   size = can.size;
 }
 
@@ -73,11 +89,12 @@ normal ended b k image h at bytes used fits = omega (
 crowded : (ended : ℕ → Bool) (b : Block) (k : ℕ) (image : Slot) → IsHeld b → k ≤ length b.slots → BLOCK_ROOM < used_of ended b → growth_of (λ t. true) b k image ≤ free_of ended b → laid_out (put_slot k image b) ≤ BLOCK_ROOM
 crowded ended b k image h at used fits = omega (arith, used_put (λ t. true) b k image at, counted-le-used (λ t. true) b k, h.size)
 
-pub can_set : (ended : ℕ → Bool) (b : Block) (k : ℕ) (image : Slot) (need free : ℕ) → IsHeld b → k ≤ length b.slots → k < MOST_SLOTS → IsImage image → need ≡ need_of ended b k image → free ≡ free_of ended b → need ≤ free → CanPut b k image
-can_set ended b k image need free h at most is n f le = record {
+pub can_set : (ended : ℕ → Bool) (b : Block) (k : ℕ) (image : Slot) (need free : ℕ) → IsHeld b → k ≤ length b.slots → k < MOST_SLOTS → IsImage image → HasSlotForm image → need ≡ need_of ended b k image → free ≡ free_of ended b → need ≤ free → CanPut b k image
+can_set ended b k image need free h at most is form n f le = record {
   at = at;
   most = most;
   bytes = is.bytes;
+  form = form;
   size = elim (cases_Bool (leb (used_of ended b) BLOCK_ROOM)) [
     | inl y ↦ (let fits : growth_of ended b k image ≤ free_of ended b = rw (n, f, y) at le in normal ended b k image h at is.bytes (grind (arith, nat_tests)) fits)
     | inr z ↦ (let fits : growth_of (λ t. true) b k image ≤ free_of ended b = rw (n, f, z) at le in crowded ended b k image h at (grind (arith, nat_tests)) fits)
@@ -94,6 +111,7 @@ held_enter b i e h can = record {
   least = omega (arith, length-put new_entry b.entries i e, h.least);
   entries = omega (arith, length-put new_entry b.entries i e, h.entries, can.most);
   rooms = h.rooms;
+  forms = h.forms;
   size = omega (arith, used_enter (λ t. true) b i e, used_enter (λ t. true) b i new_entry, can.size);
 }
 
@@ -135,6 +153,15 @@ clean_roomy s None h = h
 clean_roomy s (Some zero) h = omega arith
 clean_roomy s (Some (suc c)) h = omega arith
 
+full_room : (w : Writer) (len : ℕ) → room_as w len len ≡ len
+full_room (By t) len = omega arith
+full_room (At c) len = refl
+
+pub clean_form : (s : Slot) (o : Option ℕ) → HasSlotForm s → HasSlotForm (as_told s o)
+clean_form s None h = h
+clean_form s (Some zero) h = record { undo = h.undo; link = h.link; len = h.len; room = full_room s.writer (length s.bytes) }
+clean_form s (Some (suc c)) h = record { undo = h.undo; link = h.link; len = h.len; room = refl }
+
 told_bytes : (s : Slot) (o : Option ℕ) → (as_told s o).bytes ≡ s.bytes
 told_bytes s None = refl
 told_bytes s (Some zero) = refl
@@ -151,12 +178,17 @@ cleaned_rooms : (cs : List (ℕ × ℕ)) (ss : List Slot) → AllByRecursion Roo
 cleaned_rooms cs [] h = tt
 cleaned_rooms cs (s ∷ ss) h = (clean_roomy s (number_of_writer cs s.writer) h.0, cleaned_rooms cs ss h.1)
 
+cleaned_forms : (cs : List (ℕ × ℕ)) (ss : List Slot) → AllByRecursion HasSlotForm ss → AllByRecursion HasSlotForm (map (clean_slot cs) ss)
+cleaned_forms cs [] h = tt
+cleaned_forms cs (s ∷ ss) h = (clean_form s (number_of_writer cs s.writer) h.0, cleaned_forms cs ss h.1)
+
 pub held_clean : (cs : List (ℕ × ℕ)) (b : Block) → IsHeld b → IsHeld (clean_block cs b)
 held_clean cs b h = record {
   slots = rw (length-map b.slots (clean_slot cs)) h.slots;
   least = rw (length-map b.entries (clean_entry cs)) h.least;
   entries = rw (length-map b.entries (clean_entry cs)) h.entries;
   rooms = All-from_recursion Roomy (map (clean_slot cs) b.slots) (cleaned_rooms cs b.slots (recursion_from_All Roomy b.slots h.rooms));
+  forms = All-from_recursion HasSlotForm (map (clean_slot cs) b.slots) (cleaned_forms cs b.slots (recursion_from_All HasSlotForm b.slots h.forms));
   size = omega (arith, cleaned_sizes cs b.slots, length-map b.entries (clean_entry cs), h.size);
 }
 
@@ -170,12 +202,12 @@ can_enter_new b i used h at last most is = (
   λ can. le-leb (used + LIST_ENTRY_SIZE) BLOCK_ROOM (omega (arith, used_enter (λ t. true) b i new_entry, can.size, h.least)),
 )
 
-pub can_put_test : (b : Block) (k : ℕ) (image : Slot) (used count len : ℕ) → k ≤ length b.slots → k < MOST_SLOTS → len ≤ image.room → len ≡ length image.bytes → used ≡ laid_out b → count ≡ counted (λ t. true) b k
+pub can_put_test : (b : Block) (k : ℕ) (image : Slot) (used count len : ℕ) → k ≤ length b.slots → k < MOST_SLOTS → HasSlotForm image → len ≡ length image.bytes → used ≡ laid_out b → count ≡ counted (λ t. true) b k
     → (leb (used - count + SLOT_SIZE + len) BLOCK_ROOM ≡ true → CanPut b k image) × (CanPut b k image → leb (used - count + SLOT_SIZE + len) BLOCK_ROOM ≡ true)
-can_put_test b k image used count len at most roomy l u c =
+can_put_test b k image used count len at most form l u c =
     let put : laid_out (put_slot k image b) + counted (λ t. true) b k ≡ laid_out b + (SLOT_SIZE + length image.bytes) = used_put (λ t. true) b k image at ∙ ap (λ (n : ℕ). laid_out b + n) (laid_size image) in
     let sum : laid_out (put_slot k image b) ≡ used - count + SLOT_SIZE + len = omega (arith, put, counted-le-used (λ t. true) b k, l, u, c) in (
-      (λ t. record { at = at; most = most; bytes = omega arith; size = (let le : used - count + SLOT_SIZE + len ≤ BLOCK_ROOM = grind (arith, nat_tests) in omega arith) }),
+      (λ t. record { at = at; most = most; bytes = roomy_form image form; form = form; size = (let le : used - count + SLOT_SIZE + len ≤ BLOCK_ROOM = grind (arith, nat_tests) in omega arith) }),
       λ can. le-leb (used - count + SLOT_SIZE + len) BLOCK_ROOM (omega (arith, can.size)),
     )
 

@@ -3,8 +3,9 @@ use Rattle.std.proofs.Common.{◌≡◌, ℕ, zero, suc, ◌+◌, ◌-◌, ◌*�
 use Rattle.seg_words.proofs.Lemmas.{AllByRecursion, flat_map-cons, All-from_recursion}
 use Rattle.seg_words.specs.Types.{Slot, ListEntry, Writer, By, At, BLOCK_SIZE, PAGE_HEAD_SIZE, SLOT_SIZE, MOST_SLOTS, LIST_ENTRY_SIZE, LEAST_LIST_ENTRIES, MOST_LIST_ENTRIES}
 use Rattle.page_bytes.specs.declared.slot.SlotFields.{SlotFields}
-use Rattle.page_bytes.specs.Types.{pieces_in, fields_in, row_len, slot_as, room_as, writer_as, entry_from}
+use Rattle.page_bytes.specs.Types.{pieces_in, fields_in, row_len, slot_as, room_as, writer_as, HasSlotForm, entry_from}
 use Rattle.page_bytes.proofs.PiecesIn.{length-pieces_in}
+use Rattle.page_bytes.proofs.Ranges.{slot_formed}
 use Rattle.row_block.specs.Types.{IsHeld, row_bytes, slots_in}
 use Rattle.row_block.specs.Again.{laid_sizes}
 
@@ -66,6 +67,13 @@ roomy (suc n) groups rows =
     let f : SlotFields = fields_in (take SLOT_SIZE groups) in
     (room-ge-len (writer_as f.tag f.writer) (length (take (row_len f) rows)) f.room, roomy n (drop SLOT_SIZE groups) (drop (row_len f) rows))
 
+formed : (n : ℕ) (groups rows : List ℕ) → AllByRecursion HasSlotForm (slots_in n groups rows)
+unfolding slots_in
+formed zero groups rows = tt
+formed (suc n) groups rows =
+    let f : SlotFields = fields_in (take SLOT_SIZE groups) in
+    (slot_formed f (take (row_len f) rows) (omega (arith, length-take (row_len f) rows)), formed n (drop SLOT_SIZE groups) (drop (row_len f) rows))
+
 pub read_fits : (e s : ℕ) (bytes body groups rows : List ℕ) (es : List ListEntry) (ss : List Slot) → length bytes ≡ BLOCK_SIZE → LEAST_LIST_ENTRIES ≤ e → e ≤ MOST_LIST_ENTRIES → s ≤ MOST_SLOTS → PAGE_HEAD_SIZE + LIST_ENTRY_SIZE * e + SLOT_SIZE * s ≤ BLOCK_SIZE
     → rows ≡ drop (PAGE_HEAD_SIZE + LIST_ENTRY_SIZE * e + SLOT_SIZE * s) bytes → es ≡ pieces_in entry_from LIST_ENTRY_SIZE e body → ss ≡ slots_in s groups rows → IsHeld (record { slots = ss; entries = es })
 read_fits e s bytes body groups rows es ss long least most count room r is_e is_s =
@@ -78,5 +86,6 @@ read_fits e s bytes body groups rows es ss long least most count room r is_e is_
       least = omega arith;
       entries = omega arith;
       rooms = rw is_s (All-from_recursion (λ (s : Slot). length s.bytes ≤ s.room) (slots_in s groups rows) (roomy s groups rows));
+      forms = rw is_s (All-from_recursion HasSlotForm (slots_in s groups rows) (formed s groups rows));
       size = omega (arith, laid_sizes ss);
     }

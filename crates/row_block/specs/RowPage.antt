@@ -1,6 +1,7 @@
 -- A row block's page as contracts see it.
 use Rattle.std.specs.Prelude.{ℕ, ◌-◌, ◌<◌, ◌≤◌, Bool, true, if◌then◌else◌, nat_lt, nat_le, length, slice_index_or, All}
 use Rattle.seg_words.specs.Types.{Slot, Block, new_slot, new_entry, put_slot, put_entry, slot_size, used_of, BLOCK_ROOM, MOST_SLOTS, MOST_LIST_ENTRIES}
+use Rattle.page_bytes.specs.Types.{HasSlotForm}
 
 pub record RowPage : Type 0 where
   pub dba : ℕ
@@ -20,19 +21,22 @@ pub record IsImage (s : Slot) : Type 0 where
   pub bytes : length s.bytes ≤ s.room
   pub room : s.room ≤ BLOCK_ROOM
 
--- a block that fits its page: so many slots and list entries (INITRANS to MAXTRANS) at most, each row within its room
+-- a block that fits its page: so many slots and list entries (INITRANS to MAXTRANS) at most, each row within its room, each
+-- slot of the form that has a spelling
 pub record IsHeld (b : Block) : Type 0 where
   pub slots : length b.slots ≤ MOST_SLOTS
   pub least : 2 ≤ length b.entries
   pub entries : length b.entries ≤ MOST_LIST_ENTRIES
   pub rooms : All (λ s. length s.bytes ≤ s.room) b.slots
+  pub forms : All HasSlotForm b.slots
   pub size : laid_out b ≤ BLOCK_ROOM
 
--- an image can be put into slot k, or behind the last slot: the block then fits its page
+-- an image can be put into slot k, or behind the last slot: it has a spelling, and the block then fits its page
 pub record CanPut (b : Block) (k : ℕ) (image : Slot) : Type 0 where
   pub at : k ≤ length b.slots
   pub most : k < MOST_SLOTS
   pub bytes : length image.bytes ≤ image.room
+  pub form : HasSlotForm image
   pub size : laid_out (put_slot k image b) ≤ BLOCK_ROOM
 
 -- a transaction can be put into list entry i, or behind the last entry

@@ -4,13 +4,15 @@ ghost use Rattle.seg_words.specs.Types.{new_block, put, put_slot, put_entry, new
 ghost use Rattle.row_block.specs.RowPage.{with_block, laid_out, IsImage, IsHeld, counted, growth_of, need_of, CanPut, CanEnter, RowPage};
 ghost use Rattle.row_block.specs.Answers.{Fills, Puts, Enters, RefusesEntry, txns_of};
 ghost use Rattle.row_block.specs.Spelling.{spelling, IsRowPage, Decodes, IsReadAs};
+ghost use Rattle.page_bytes.specs.Types.{HasSlotForm};
 ghost use Rattle.row_block.specs.declared.fault.BlockFault.TheVariants as faults;
 
 use crate::BlockFault;
 use crate::clean::clean_slots;
 use crate::entries::Entries;
+use crate::ranges::{entries_in_range, slots_in_range};
 use crate::sizes::{AllEnded, row_size, slot_size, slot_to_use, slots_size};
-use page_bytes::PageForm;
+use page_bytes::{PageForm, has_slot_form, in_range};
 use seg_base::{
     BLOCK_ROOM, BLOCK_SIZE, Class, Dba, Ended, LEAST_LIST_ENTRIES, LIST_ENTRY_SIZE, ListEntry, Lsn,
     MOST_LIST_ENTRIES, MOST_PCTFREE, MOST_SLOTS, NoMemory, SLOT_SIZE, Scn, Sequence, Slot, Taker,
@@ -283,10 +285,10 @@ impl RowBlock {
     pub fn can_put(&self, n: u8, image: &Slot) -> bool
         ensures { IsTrue result ↔ CanPut self.now.block n image.now }
     {
-        let len = image.bytes.len();
-        if n > self.slots() || n >= MOST_SLOTS || len > image.room as usize {
+        if n > self.slots() || n >= MOST_SLOTS || !has_slot_form(image) {
             return false;
         }
+        let len = image.bytes.len();
         let others = self.used(&AllEnded) - self.counted(&AllEnded, n);
         others + SLOT_SIZE as u32 + len as u32 <= BLOCK_ROOM
     }
@@ -305,6 +307,7 @@ impl RowBlock {
         requires at { n ≤ length self.old.block.slots }
         requires most { n < MOST_SLOTS }
         requires image { IsImage image }
+        requires form { HasSlotForm image }
         ensures { Fills (need_of (E.has_ended ended.now) self.old.block n image) (free_of (E.has_ended ended.now) self.old.block) self.old (with_block self.old (put_slot n image self.old.block)) self.new result }
     {
         let _ = &self.dba;
@@ -397,6 +400,15 @@ impl RowBlock {
         ensures { out.new ≡ spelling self.now }
     {
         self.write(out);
+    }
+
+    /// Each block has a spelling: what is written of it is read back.
+    pub fn has_spelling(&self)
+        ensures { IsRowPage self.now }
+    {
+        in_range(self.dba.0, self.lsn.0);
+        entries_in_range(self.all_entries());
+        slots_in_range(self.all_slots());
     }
 
     pub fn duplicate(&self, alloc: Global) -> Result<RowBlock, BlockFault>

@@ -6,6 +6,7 @@ mod clean;
 mod entries;
 mod fault;
 mod page;
+mod ranges;
 mod sizes;
 #[cfg(test)]
 mod tests;

@@ -1,4 +1,5 @@
-ghost use Rattle.std.specs.Prelude.{◌≤◌, IfOk};
+ghost use Rattle.std.specs.Prelude.{◌≡◌, ◌≤◌, IfOk};
+ghost use Rattle.page_bytes.specs.Types.{room_as, HasSlotForm};
 ghost use Rattle.row_block.specs.RowPage.{IsImage};
 
 use super::*;
@@ -27,7 +28,9 @@ impl Ended for EndedBelow {
 fn row(alloc: Global, writer: Writer, len: u16, room: u16) -> Result<Slot, NoMemory>
     requires len { len ≤ room }
     requires room { room ≤ BLOCK_ROOM }
-    ensures { IfOk result (λ slot. IsImage slot) }
+    requires writer { room_as writer len room ≡ room }
+    ensures image { IfOk result (λ slot. IsImage slot) }
+    ensures form { IfOk result (λ slot. HasSlotForm slot) }
 {
     let bytes = Text::from_vec(vec![in alloc; b'x'; len as usize]?);
     Ok(Slot {
@@ -39,6 +42,22 @@ fn row(alloc: Global, writer: Writer, len: u16, room: u16) -> Result<Slot, NoMem
         bytes,
         room,
     })
+}
+
+/// An Empty slot.
+fn empty(alloc: Global) -> Slot
+    ensures image { IsImage result }
+    ensures form { HasSlotForm result }
+{
+    Slot {
+        kind: Kind::Empty,
+        writer: Writer::At(Scn(0)),
+        undo: None,
+        row: RowNo(0),
+        link: None,
+        bytes: Text::empty(alloc),
+        room: 0,
+    }
 }
 
 /// What a refusal for want of room says: what is needed and what is free.
@@ -100,10 +119,8 @@ fn a_hundred_slots_are_all(rt: HostRuntime) -> Result<(), Fail> {
     let none = EndedBelow(0);
     let mut block = RowBlock::new(alloc, Dba(43));
     for n in 0..100u8 {
-        let mut empty = row(alloc, Writer::At(Scn(0)), 0, 0)?;
-        empty.kind = Kind::Empty;
         if n <= block.slots() {
-            block.set_slot(&none, n, empty)?;
+            block.set_slot(&none, n, empty(alloc))?;
         }
     }
     assert_eq!(rt; (block.free(&none), block.slots()), (32, 100));

@@ -1,9 +1,12 @@
 // The catalogue, block 2.
 ghost use Rattle.std.specs.Prelude.{◌≡◌, ◌≤◌, ◌+◌, ◌<◌, length, IfSome, position, ◌-◌, ◌++◌, replicate, slice_set, Some, IfOk, OnOk};
-ghost use Rattle.segment_blocks.specs.Catalogues.{has_table, header_of_table, header_of, is_named, spelling_of_tables, table_count, table_named, no_table};
+ghost use Rattle.seg_words.specs.Types.{AllByRecursion};
+ghost use Rattle.segment_blocks.specs.Catalogues.{IsCatalogue, IsCatalogueEntry, IsTable, has_table, header_of_table, header_of, is_named, spelling_of_tables, table_count, table_named, no_table};
 
 use crate::entry::{CatalogueEntry, NamedTable};
-use page_bytes::{PageForm, add, add_all, begin, head_bytes, number_u32, number_u64, read_all};
+use page_bytes::{
+    PageForm, add, add_all, begin, head_bytes, in_range, number_u32, number_u64, read_all,
+};
 use seg_base::{BLOCK_SIZE, Dba, Lsn, MOST_TABLES, Name, NoMemory, Obj};
 use std::alloc::Global;
 use std::marker::Model;
@@ -96,6 +99,28 @@ fn copies(alloc: Global, entries: &[CatalogueEntry]) -> Result<Vec<CatalogueEntr
     Ok(copies)
 }
 
+fn table_in_range(table: &NamedTable)
+    ensures { IsTable (Some table.now) }
+{
+    let _name = table.name.as_slice();
+    in_range(table.header.0, 0);
+}
+
+/// Each entry has a spelling.
+fn entries_in_range(entries: &[CatalogueEntry])
+    ensures { AllByRecursion IsCatalogueEntry entries.now }
+{
+    match entries {
+        [] => {}
+        [first, rest @ ..] => {
+            if let Some(table) = &first.table {
+                table_in_range(table);
+            }
+            entries_in_range(rest);
+        }
+    }
+}
+
 impl Catalogue {
     /// The catalogue of a store without a table.
     pub fn new(alloc: Global, dba: Dba) -> Result<Catalogue, NoMemory>
@@ -170,6 +195,14 @@ impl Catalogue {
         ensures { result ≡ header_of self.now.entries obj }
     {
         header_of(&self.entries, obj.0)
+    }
+
+    /// Each of these pages has a spelling: what is written of it is read back.
+    pub fn has_spelling(&self)
+        ensures { IsCatalogue self.now }
+    {
+        in_range(self.dba.0, self.lsn.0);
+        entries_in_range(&self.entries);
     }
 }
 

@@ -1,10 +1,12 @@
 // A segment's header.
 ghost use Rattle.std.specs.Prelude.{◌≡◌, ◌≤◌, ◌^◌, ◌<◌, [], false, List, ℕ, length, IfOk, ◌++◌, ◌∷◌, take, OnOk, OnErr};
-ghost use Rattle.segment_blocks.specs.Headers.{Header, flag, fields_of, is_on, obj_in, extent_at, header_with, spelling_of_header};
+ghost use Rattle.seg_words.specs.Types.{AllByRecursion};
+ghost use Rattle.segment_blocks.specs.Headers.{Header, IsHeader, flag, fields_of, is_on, obj_in, extent_at, header_with, spelling_of_header};
 
 use crate::extent::ExtentNumber;
 use page_bytes::{
-    PageForm, add, add_all, begin, head_bytes, number_u16, number_u32, number_u64, read_all,
+    PageForm, add, add_all, begin, head_bytes, in_range, number_u16, number_u32, number_u64,
+    read_all,
 };
 use seg_base::{
     BLOCK_SIZE, Dba, Lsn, MOST_EXTENTS, MOST_PCTFREE, MOST_TABLES, NoMemory, Obj, put_at,
@@ -174,6 +176,30 @@ impl SegmentHeader {
         }
         let number = self.extents[at];
         Some(number.0)
+    }
+
+    /// Each of these pages has a spelling: what is written of it is read back.
+    pub fn has_spelling(&self)
+        ensures { IsHeader self.now }
+    {
+        in_range(self.dba.0, self.lsn.0);
+        in_range(self.low, 0);
+        in_range(self.high, 0);
+        extents_in_range(&self.extents);
+    }
+}
+
+/// Each extent's number is in the range of its type.
+fn extents_in_range(extents: &[ExtentNumber])
+    ensures { AllByRecursion (λ x. x < 2 ^ 32) extents.now }
+{
+    match extents {
+        [] => {}
+        [first, rest @ ..] => {
+            let number = *first;
+            in_range(number.0, 0);
+            extents_in_range(rest);
+        }
     }
 }
 

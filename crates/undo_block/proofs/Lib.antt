@@ -1,4 +1,5 @@
 pub mod Sizes
+pub mod Forms
 pub mod Reading
 pub mod Holding
 pub mod Writing

@@ -1,13 +1,15 @@
 // An undo block.
 ghost use Rattle.std.specs.Prelude.{◌≡◌, ◌≤◌, ◌<◌, [], length, slice_get, Some, IfOk, IfSome, option_map};
-ghost use Rattle.undo_block.specs.Parts.{used_by, holder_of, is_held, lesser, with_part};
+ghost use Rattle.seg_words.specs.Types.{AllByRecursion};
+ghost use Rattle.undo_block.specs.Parts.{used_by, HasPartForm, holder_of, is_held, lesser, with_part};
 ghost use Rattle.undo_block.specs.Held.{AppendsAt};
 ghost use Rattle.undo_block.specs.UndoPage.{UndoPage, Decodes, IsReadAs, IsUndoPage, spelling};
 
 use crate::fault::UndoFault;
+use crate::form::parts_in_range;
 use crate::part::Part;
 use crate::parts::Parts;
-use page_bytes::PageForm;
+use page_bytes::{PageForm, in_range};
 use seg_base::{BLOCK_ROOM, BLOCK_SIZE, Dba, Ended, Lsn, MOST_UNDO_PARTS, NoMemory, TxnId};
 use std::alloc::Global;
 use std::marker::Model;
@@ -169,6 +171,7 @@ impl UndoBlock {
     pub(crate) fn all_parts(&self) -> &[Part]
         ensures same { result.now ≡ self.now.parts }
         ensures used { used_by self.now.parts ≤ BLOCK_ROOM }
+        ensures forms { AllByRecursion HasPartForm self.now.parts }
     {
         self.parts.as_slice()
     }
@@ -183,6 +186,7 @@ impl UndoBlock {
     /// Adds the parts of one record behind the others, all or none, and answers the place of the first. NoRoom exactly
     /// where they don't fit.
     pub fn append(&mut self, parts: &[Part]) -> Result<u8, UndoFault>
+        requires { AllByRecursion HasPartForm parts.now }
         ensures parts { AppendsAt self.old.parts self.new.parts parts.now result }
         ensures others { self.new ≡ record self.old { parts = self.new.parts } }
     {
@@ -193,12 +197,22 @@ impl UndoBlock {
 
     /// The same with parts that are handed over, so that none is copied.
     pub fn append_owned(&mut self, parts: Vec<Part>) -> Result<u8, UndoFault>
+        requires { AllByRecursion HasPartForm parts.items }
         ensures parts { AppendsAt self.old.parts self.new.parts parts.items result }
         ensures others { self.new ≡ record self.old { parts = self.new.parts } }
     {
         let first = self.parts.count();
         self.parts.append_owned(parts)?;
         Ok(first)
+    }
+
+    /// Each block has a spelling: what is written of it is read back.
+    pub fn has_spelling(&self)
+        ensures { IsUndoPage self.now }
+    {
+        in_range(self.dba.0, self.lsn.0);
+        in_range(self.dba.0, self.sequence);
+        parts_in_range(self.all_parts());
     }
 
     /// The block that a page spells, or the first byte that is not of the spelling of what its fields read as.

@@ -3,6 +3,7 @@
 
 mod block;
 mod fault;
+mod form;
 mod page;
 mod part;
 mod parts;
@@ -11,4 +12,5 @@ mod tests;
 
 pub use block::UndoBlock;
 pub use fault::UndoFault;
+pub use form::have_part_form;
 pub use part::Part;

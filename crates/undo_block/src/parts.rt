@@ -1,6 +1,7 @@
 // A list of parts, and the bytes that they use.
 ghost use Rattle.std.specs.Prelude.{◌≡◌, ◌≤◌, ◌+◌, ◌++◌, ◌∷◌, [], min, length, OnErr, OnOk, IfOk};
-ghost use Rattle.undo_block.specs.Parts.{part_size, used_by};
+ghost use Rattle.seg_words.specs.Types.{AllByRecursion};
+ghost use Rattle.undo_block.specs.Parts.{part_size, used_by, HasPartForm};
 ghost use Rattle.undo_block.specs.Held.{Appends};
 
 use crate::fault::UndoFault;
@@ -67,15 +68,17 @@ impl Parts {
     pub fn as_slice(&self) -> &[Part]
         ensures same { result.now ≡ self.now }
         ensures used { used_by self.now ≤ BLOCK_ROOM }
+        ensures forms { AllByRecursion HasPartForm self.now }
     {
         let _used = self.used;
         self.parts.as_slice()
     }
 
     /// Adds a part that fits. Without memory nothing is added.
-    #[tactic(auto, using(crate::proofs::Sizes::used_push))]
+    #[tactic(auto, using(crate::proofs::Sizes::used_push, crate::proofs::Forms::forms_push))]
     pub fn push(&mut self, part: Part) -> Result<(), NoMemory>
-        requires { used_by self.old + part_size part ≤ BLOCK_ROOM }
+        requires room { used_by self.old + part_size part ≤ BLOCK_ROOM }
+        requires form { HasPartForm part }
         ensures ok { OnOk result (self.new ≡ self.old ++ part ∷ []) }
         ensures err { OnErr result (self.new ≡ self.old) }
     {
@@ -86,8 +89,9 @@ impl Parts {
     }
 
     /// Adds copies of these parts behind the others, all or none.
-    #[tactic(auto, using(crate::proofs::Sizes::used_append))]
+    #[tactic(auto, using(crate::proofs::Sizes::used_append, crate::proofs::Forms::forms_append))]
     pub fn append(&mut self, parts: &[Part]) -> Result<(), UndoFault>
+        requires { AllByRecursion HasPartForm parts.now }
         ensures { Appends self.old self.new parts.now result }
     {
         let need = need_of(parts);
@@ -102,8 +106,9 @@ impl Parts {
     }
 
     /// Adds these parts behind the others, all or none, without a copy.
-    #[tactic(auto, using(crate::proofs::Sizes::used_append))]
+    #[tactic(auto, using(crate::proofs::Sizes::used_append, crate::proofs::Forms::forms_append))]
     pub fn append_owned(&mut self, parts: Vec<Part>) -> Result<(), UndoFault>
+        requires { AllByRecursion HasPartForm parts.items }
         ensures { Appends self.old self.new parts.items result }
     {
         let need = need_of(&parts);

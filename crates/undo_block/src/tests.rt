@@ -1,4 +1,4 @@
-use crate::{Part, UndoBlock, UndoFault};
+use crate::{Part, UndoBlock, UndoFault, have_part_form};
 use seg_base::{
     BLOCK_SIZE, Dba, Ended, Kind, NoMemory, RowNo, Slot, Text, TxnId, UndoAddr, UndoPlace, Writer,
 };
@@ -44,25 +44,33 @@ fn part(alloc: Global, txn: u64, len: usize) -> Result<Part, NoMemory> {
     })
 }
 
+/// Adds parts that have a spelling.
+fn append(block: &mut UndoBlock, parts: &[Part]) -> Result<u8, UndoFault> {
+    if !have_part_form(parts) {
+        return Err(UndoFault::BadPage { offset: 0 });
+    }
+    block.append(parts)
+}
+
 // Two parts of 1,800 bytes leave 304 of 4,032 bytes, so a third finds no room. A move's part holds no block.
 #[test]
 fn parts_stand_by_place(rt: HostRuntime) -> Result<(), Fail> {
     let alloc = rt.alloc();
     let mut block = UndoBlock::new(alloc, Dba(37));
     let first = [part(alloc, 9, 1800)?];
-    assert_eq!(rt; block.append(&first), Ok(0));
+    assert_eq!(rt; append(&mut block, &first), Ok(0));
     let second = [part(alloc, 5, 1800)?];
-    assert_eq!(rt; block.append(&second), Ok(1));
+    assert_eq!(rt; append(&mut block, &second), Ok(1));
     assert_eq!(rt; block.used(), 3728);
     assert_eq!(rt;
-        block.append(&first),
+        append(&mut block, &first),
         Err(UndoFault::NoRoom {
             need: 1864,
             free: 304
         })
     );
     let move_parts = [part(alloc, 0, 0)?];
-    assert_eq!(rt; block.append(&move_parts), Ok(2));
+    assert_eq!(rt; append(&mut block, &move_parts), Ok(2));
     assert_eq!(rt; block.count(), 3);
     assert_eq!(rt; block.holder(&Below(1)), Some(TxnId(5)));
     assert_eq!(rt; block.holder(&Below(6)), Some(TxnId(9)));
@@ -78,7 +86,7 @@ fn a_page_has_one_spelling(rt: HostRuntime) -> Result<(), Fail> {
     let alloc = rt.alloc();
     let mut block = UndoBlock::new(alloc, Dba(37));
     let parts = [part(alloc, 9, 2)?];
-    assert_eq!(rt; block.append(&parts), Ok(0));
+    assert_eq!(rt; append(&mut block, &parts), Ok(0));
     let mut page = [0; BLOCK_SIZE];
     block.encode(&mut page);
     assert_eq!(rt; page[0], 6);

@@ -1,3 +1,5 @@
+ghost use Rattle.std.specs.Prelude.{◌<◌};
+
 use crate::{EndedIn, Seen, UndoPages, Version, image_at, look, look_in, walk};
 use page_bytes::decode;
 use row_block::RowBlock;
@@ -5,7 +7,7 @@ use seg_base::{Dba, Ended, Kind, NoMemory, RowNo, Scn, Slot, Text, TxnId, UndoAd
 use std::alloc::Global;
 use std::test::Fail;
 use txn_block::TxnBlock;
-use undo_block::{Part, UndoBlock};
+use undo_block::{Part, UndoBlock, have_part_form};
 
 /// A table where transaction 1 has committed as 5, 2 was rolled back, 3 is active, and 4 is forgotten: the last
 /// transaction is 9 and the control number 2.
@@ -29,7 +31,10 @@ fn put_entry(page: &mut [u8; 4096], at: usize, txn: u8, state: u8, number: u8) {
     }
 }
 
-fn at(block: u32, seq: u64, nth: u8) -> UndoAddr {
+fn at(block: u32, seq: u64, nth: u8) -> UndoAddr
+    requires { 0 < block }
+    ensures { 0 < result.block }
+{
     UndoAddr { block, seq, nth }
 }
 
@@ -195,15 +200,21 @@ fn part(alloc: Global, writer: Writer, undo: UndoAddr, row: u64) -> Result<Part,
 /// that is gone; 38.0.1 leads to itself.
 fn two_blocks(alloc: Global) -> Result<Ring, Fail> {
     let mut first = UndoBlock::new(alloc, Dba(37));
-    first.append(&[
+    let parts = [
         part(alloc, Writer::By(TxnId(3)), at(38, 0, 0), 7)?,
         part(alloc, Writer::By(TxnId(3)), at(37, 0, 0), 7)?,
-    ])?;
+    ];
+    if have_part_form(&parts) {
+        first.append(&parts)?;
+    }
     let mut second = UndoBlock::new(alloc, Dba(38));
-    second.append(&[
+    let parts = [
         part(alloc, Writer::At(Scn(2)), at(37, 9, 5), 8)?,
         part(alloc, Writer::By(TxnId(3)), at(38, 0, 1), 7)?,
-    ])?;
+    ];
+    if have_part_form(&parts) {
+        second.append(&parts)?;
+    }
     let mut blocks = Vec::new(alloc);
     blocks.push(first)?;
     blocks.push(second)?;

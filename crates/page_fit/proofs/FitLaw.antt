@@ -124,7 +124,7 @@ is_txns (pages.Third x) e = absurd (let z : ◌≡◌ {A = Option Sort} (Some Th
 is_txns (pages.Header x) e = absurd (let z : ◌≡◌ {A = Option Sort} None (Some Txns) = e in cc)
 is_txns (pages.Rows x) e = absurd (let z : ◌≡◌ {A = Option Sort} (Some Rows) (Some Txns) = e in let y : Rows ≡ Txns = cc in let w : Rows ≡ Txns = y in cc)
 
-is_first : (p : Page) → sort_name p ≡ Some First → (x : ExtentMap) × (p ≡ pages.First x)
+pub is_first : (p : Page) → sort_name p ≡ Some First → (x : ExtentMap) × (p ≡ pages.First x)
 is_first (pages.Zero x) e = absurd (let z : ◌≡◌ {A = Option Sort} (Some Blank) (Some First) = e in let y : Blank ≡ First = cc in let w : Blank ≡ First = y in cc)
 is_first (pages.Checkpoint x) e = absurd (let z : ◌≡◌ {A = Option Sort} None (Some First) = e in cc)
 is_first (pages.Txns x) e = absurd (let z : ◌≡◌ {A = Option Sort} (Some Txns) (Some First) = e in let y : Txns ≡ First = cc in let w : Txns ≡ First = y in cc)
@@ -137,7 +137,7 @@ is_first (pages.Third x) e = absurd (let z : ◌≡◌ {A = Option Sort} (Some T
 is_first (pages.Header x) e = absurd (let z : ◌≡◌ {A = Option Sort} None (Some First) = e in cc)
 is_first (pages.Rows x) e = absurd (let z : ◌≡◌ {A = Option Sort} (Some Rows) (Some First) = e in let y : Rows ≡ First = cc in let w : Rows ≡ First = y in cc)
 
-is_second : (p : Page) → sort_name p ≡ Some Second → (x : Summary) × (p ≡ pages.Second x)
+pub is_second : (p : Page) → sort_name p ≡ Some Second → (x : Summary) × (p ≡ pages.Second x)
 is_second (pages.Zero x) e = absurd (let z : ◌≡◌ {A = Option Sort} (Some Blank) (Some Second) = e in let y : Blank ≡ Second = cc in let w : Blank ≡ Second = y in cc)
 is_second (pages.Checkpoint x) e = absurd (let z : ◌≡◌ {A = Option Sort} None (Some Second) = e in cc)
 is_second (pages.Txns x) e = absurd (let z : ◌≡◌ {A = Option Sort} (Some Txns) (Some Second) = e in let y : Txns ≡ Second = cc in let w : Txns ≡ Second = y in cc)
@@ -150,7 +150,7 @@ is_second (pages.Third x) e = absurd (let z : ◌≡◌ {A = Option Sort} (Some 
 is_second (pages.Header x) e = absurd (let z : ◌≡◌ {A = Option Sort} None (Some Second) = e in cc)
 is_second (pages.Rows x) e = absurd (let z : ◌≡◌ {A = Option Sort} (Some Rows) (Some Second) = e in let y : Rows ≡ Second = cc in let w : Rows ≡ Second = y in cc)
 
-is_third : (p : Page) → sort_name p ≡ Some Third → (x : Summary) × (p ≡ pages.Third x)
+pub is_third : (p : Page) → sort_name p ≡ Some Third → (x : Summary) × (p ≡ pages.Third x)
 is_third (pages.Zero x) e = absurd (let z : ◌≡◌ {A = Option Sort} (Some Blank) (Some Third) = e in let y : Blank ≡ Third = cc in let w : Blank ≡ Third = y in cc)
 is_third (pages.Checkpoint x) e = absurd (let z : ◌≡◌ {A = Option Sort} None (Some Third) = e in cc)
 is_third (pages.Txns x) e = absurd (let z : ◌≡◌ {A = Option Sort} (Some Txns) (Some Third) = e in let y : Txns ≡ Third = cc in let w : Txns ≡ Third = y in cc)
@@ -176,7 +176,7 @@ is_zero (pages.Third x) e = absurd (let z : ◌≡◌ {A = Option Sort} (Some Th
 is_zero (pages.Header x) e = absurd (let z : ◌≡◌ {A = Option Sort} None (Some Blank) = e in cc)
 is_zero (pages.Rows x) e = absurd (let z : ◌≡◌ {A = Option Sort} (Some Rows) (Some Blank) = e in let y : Rows ≡ Blank = cc in let w : Rows ≡ Blank = y in cc)
 
-the_sort : (sh : Shape) (R : List Record) (d : ℕ) (s : Sort) → AreAllowed sh R → Plain R d → sort_of sh R d ≡ s → sort_name (page_of sh R d) ≡ Some s
+pub the_sort : (sh : Shape) (R : List Record) (d : ℕ) (s : Sort) → AreAllowed sh R → Plain R d → sort_of sh R d ≡ s → sort_name (page_of sh R d) ≡ Some s
 the_sort sh R d s h p e = pages_sorted sh R d h p ∙ ap (λ (t : Sort). Some t) e
 
 -- both speak of the same fits

@@ -1,8 +1,12 @@
-//! Laws on what the pages of a lawful list of records say, by the model's words: the space bitmap. Each is the contract of a function
-//! that does nothing.
+//! Laws on what the pages of a lawful list of records say, by the model's words: the space bitmap and the levels of the
+//! tables' bitmaps. Each is the contract of a function that does nothing.
 #![tactic(auto)]
 
+mod levels;
+
 ghost use Rattle.page_says.specs.Space.{SpacesSay};
+
+pub use levels::first_levels_say;
 
 /// The page of the space bitmap has an extent in use exactly where some table has it, and counts how often marks were lowered. Where
 /// it was never written, no table has an extent.

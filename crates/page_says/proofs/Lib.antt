@@ -5,3 +5,4 @@ pub mod HeadPages
 pub mod Groups
 pub mod FirstLevel
 pub mod SecondLevel
+pub mod ThirdLevel

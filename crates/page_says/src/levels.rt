@@ -1,5 +1,6 @@
 // What the pages of the three levels of bitmaps say.
 ghost use Rattle.page_says.specs.Levels.{FirstLevelsSay, SecondLevelsSay, ThirdLevelsSay};
+ghost use Rattle.page_says.specs.LevelsWorked.{LevelsRight};
 
 /// The first block of each extent of a table has the page of a first level, from the record on by which the table got the
 /// extent: the LSN of that record, the kept class of each data block of the extent that is formatted, 0 of each other block.
@@ -20,4 +21,9 @@ pub fn second_levels_say()
 #[tactic(auto, using(crate::proofs::ThirdLevel::third_levels_say))]
 pub fn third_levels_say()
     ensures { ThirdLevelsSay }
+{}
+
+/// What the pages and the model say after two small runs, computed.
+pub fn levels_compute()
+    ensures { LevelsRight }
 {}

@@ -6,7 +6,7 @@ mod levels;
 
 ghost use Rattle.page_says.specs.Space.{SpacesSay};
 
-pub use levels::{first_levels_say, second_levels_say, third_levels_say};
+pub use levels::{first_levels_say, levels_compute, second_levels_say, third_levels_say};
 
 /// The page of the space bitmap has an extent in use exactly where some table has it, and counts how often marks were lowered. Where
 /// it was never written, no table has an extent.

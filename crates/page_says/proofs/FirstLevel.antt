@@ -72,10 +72,10 @@ quiet sh R r o i e s h f at keep same n q =
 
 -- ---- a record that names a data block
 
-abbrev Coded : ℕ → ℕ → ExtentMap → ExtentMap → Type 0
+abbrev pub Coded : ℕ → ℕ → ExtentMap → ExtentMap → Type 0
 Coded v c m n = (n.incarnation ≡ m.incarnation) × (n.codes ≡ slice_set m.codes v c)
 
-coded_first : (sh : Shape) (R S : List Record) (i b c v : ℕ) (e : Extent) (m n : ExtentMap) → FirstSays sh R i e m → Coded v c m n → first_block sh e.number + v ≡ b → v < 64 → is_in b (extent_data sh i e.number) ≡ true
+pub coded_first : (sh : Shape) (R S : List Record) (i b c v : ℕ) (e : Extent) (m n : ExtentMap) → FirstSays sh R i e m → Coded v c m n → first_block sh e.number + v ≡ b → v < 64 → is_in b (extent_data sh i e.number) ≡ true
     → code_of sh S b ≡ c → ((x : ℕ) → (b ≡ x → ⊥) → code_of sh S x ≡ code_of sh R x) → FirstSays sh S i e n
 coded_first sh R S i b c v e m n x k at small here code others = record {
   incarnation = k.0 ∙ x.incarnation;

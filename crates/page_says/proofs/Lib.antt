@@ -6,3 +6,4 @@ pub mod Groups
 pub mod FirstLevel
 pub mod SecondLevel
 pub mod ThirdLevel
+pub mod BestsRead

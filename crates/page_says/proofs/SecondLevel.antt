@@ -78,10 +78,10 @@ quiet sh R r o i e s h f at g keep none n q =
 
 -- ---- a record that names an extent
 
-abbrev Coded : ℕ → ℕ → Summary → Summary → Type 0
+abbrev pub Coded : ℕ → ℕ → Summary → Summary → Type 0
 Coded v c m n = n.codes ≡ slice_set m.codes v c
 
-coded_second : (sh : Shape) (R S : List Record) (o i index v c : ℕ) (m n : Summary) → SecondSays sh R o i m → Coded v c m n → v < 300 → i + v ≡ index
+pub coded_second : (sh : Shape) (R S : List Record) (o i index v c : ℕ) (m n : Summary) → SecondSays sh R o i m → Coded v c m n → v < 300 → i + v ≡ index
     → best_in_l1 sh S o index ≡ c → ((j : ℕ) → (index ≡ j → ⊥) → best_in_l1 sh S o j ≡ best_in_l1 sh R o j) → SecondSays sh S o i n
 coded_second sh R S o i index v c m n x k small at code others = record {
   count = ap (λ (cs : List ℕ). length cs) k ∙ length-set m.codes v c ∙ x.count;
@@ -199,7 +199,7 @@ extend_starts sh R x lsn e p s h dba at =
     ∙ cond-false _ _ _ (ne_eqb (dba_of p) x.header (not_block sh e.number 1 3 (dba_of p) x.header (extent_at (extents_of S x.obj) 0) lim (omega arith) (omega arith) (λ y. omega (arith, y)) dba h.1.kind.header))
     ∙ cond-true _ _ _ (eq-eqb (dba_of p) x.l2 (dba ∙ sym at))
 
-at_none : (es : List Extent) (n : ℕ) → length es ≤ n → extent_at es n ≡ None
+pub at_none : (es : List Extent) (n : ℕ) → length es ≤ n → extent_at es n ≡ None
 at_none [] n l = refl
 at_none (e ∷ es) zero l = absurd (omega (arith, l))
 at_none (e ∷ es) (suc n) l = at_none es n (omega (arith, l))
@@ -273,7 +273,7 @@ extend_step sh R x o i e s h f at g n q = elim (extend_at R x o i e at) [
 
 -- ---- marks are lowered
 
-cleared_below : (n k j : ℕ) (codes : List ℕ) → length codes ≡ k → j < n → slice_index (take n codes ++ drop n (replicate k 0)) j ≡ slice_index codes j
+pub cleared_below : (n k j : ℕ) (codes : List ℕ) → length codes ≡ k → j < n → slice_index (take n codes ++ drop n (replicate k 0)) j ≡ slice_index codes j
 cleared_below zero k j codes e lt = absurd (omega (arith, lt))
 cleared_below (suc n) zero j [] e lt = refl
 cleared_below (suc n) (suc k) j [] e lt = absurd (omega (arith, e))
@@ -281,7 +281,7 @@ cleared_below (suc n) zero j (c ∷ cs) e lt = absurd (omega (arith, e))
 cleared_below (suc n) (suc k) zero (c ∷ cs) e lt = refl
 cleared_below (suc n) (suc k) (suc j) (c ∷ cs) e lt = cleared_below n k j cs (omega (arith, e)) (omega (arith, lt))
 
-cleared_past : (n k j : ℕ) (codes : List ℕ) → length codes ≡ k → n ≤ j → slice_index (take n codes ++ drop n (replicate k 0)) j ≡ 0
+pub cleared_past : (n k j : ℕ) (codes : List ℕ) → length codes ≡ k → n ≤ j → slice_index (take n codes ++ drop n (replicate k 0)) j ≡ 0
 cleared_past zero k j codes e le = zero_at k j
 cleared_past (suc n) zero j [] e le = refl
 cleared_past (suc n) (suc k) j [] e le = absurd (omega (arith, e))
@@ -289,7 +289,7 @@ cleared_past (suc n) zero j (c ∷ cs) e le = absurd (omega (arith, e))
 cleared_past (suc n) (suc k) zero (c ∷ cs) e le = absurd (omega (arith, le))
 cleared_past (suc n) (suc k) (suc j) (c ∷ cs) e le = cleared_past n k j cs (omega (arith, e)) (omega (arith, le))
 
-cleared_count : (n k : ℕ) (codes : List ℕ) → length codes ≡ k → length (take n codes ++ drop n (replicate k 0)) ≡ k
+pub cleared_count : (n k : ℕ) (codes : List ℕ) → length codes ≡ k → length (take n codes ++ drop n (replicate k 0)) ≡ k
 cleared_count zero zero codes e = refl
 cleared_count zero (suc k) codes e = (let z = cleared_count zero k (drop 1 codes) (drop_count codes k e) in omega (arith, z))
   where

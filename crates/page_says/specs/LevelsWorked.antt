@@ -1,5 +1,5 @@
 -- The pages of the three levels after two of the small runs, and what the model says there.
-use Rattle.std.specs.Prelude.{◌≡◌, ℕ, ◌-◌, List, [], ◌∷◌, length, map, replicate}
+use Rattle.std.specs.Prelude.{◌≡◌, ◌-◌, List, [], ◌∷◌, length, map, replicate}
 use Rattle.redo_record.specs.declared.record.Record.{Record}
 use Rattle.redo_model.specs.Kept.{best_in_l1, best_in_l2}
 use Rattle.redo_model.specs.Worked.{small, three, extend_by, format_block, moved, lowered}

@@ -1,3 +1,4 @@
 pub mod Space
 pub mod Levels
 pub mod LevelsWorked
+pub mod LevelBests

@@ -2,10 +2,12 @@
 //! tables' bitmaps. Each is the contract of a function that does nothing.
 #![tactic(auto)]
 
+mod bests;
 mod levels;
 
 ghost use Rattle.page_says.specs.Space.{SpacesSay};
 
+pub use bests::{bests_are_read, class_bests_are_read, lower_bests_are_read};
 pub use levels::{first_levels_say, levels_compute, second_levels_say, third_levels_say};
 
 /// The page of the space bitmap has an extent in use exactly where some table has it, and counts how often marks were lowered. Where

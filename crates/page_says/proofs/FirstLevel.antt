@@ -8,7 +8,7 @@ use Rattle.seg_base.specs.declared.shape.Shape.{Shape}
 use Rattle.seg_base.specs.Places.{first_block, head_blocks, is_extent, is_shape}
 use Rattle.bitmap_block.specs.Pages.{ExtentMap}
 use Rattle.redo_record.specs.declared.record.Record.{Record}
-use Rattle.redo_record.specs.declared.record.Record.TheVariants.{Table, Movement, Extend, FormatBlock, Class, Advance, Lower, Begin, Reuse, Insert, Update, Migrate, Return, Delete, Commit, Back, Ended, Move, Clean}
+use Rattle.redo_record.specs.declared.record.Record.TheVariants.{Table, Extend, FormatBlock, Class, Lower, Reuse}
 use Rattle.redo_record.specs.declared.space.ExtendRecord.{ExtendRecord}
 use Rattle.redo_record.specs.declared.space.FormatBlockRecord.{FormatBlockRecord}
 use Rattle.redo_record.specs.declared.space.ClassRecord.{ClassRecord}
@@ -278,19 +278,7 @@ firsts_step sh R (Table t) s h f o i e at n q = quiet sh R (Table t) o i e s h.0
 firsts_step sh R (Reuse r) s h f o i e at n q = quiet sh R (Reuse r) o i e s h.0 f at
     (λ m. elim (eqb r.block m.dba) as (λ v. OnFirst (Kept m) (page_after (Reuse r) (suc (length R)) (or_kept (cond v (Some (new_undo m.dba r.sequence)) None) (pages.First m)))) [ true ↦ tt | false ↦ (refl, refl) ])
     (λ b. refl) n q
-firsts_step sh R (Movement r) s h f o i e at n q = quiet sh R (Movement r) o i e s h.0 f at (λ m. (refl, refl)) (λ b. refl) n q
-firsts_step sh R (Advance r) s h f o i e at n q = quiet sh R (Advance r) o i e s h.0 f at (λ m. (refl, refl)) (λ b. refl) n q
-firsts_step sh R (Begin r) s h f o i e at n q = quiet sh R (Begin r) o i e s h.0 f at (λ m. (refl, refl)) (λ b. refl) n q
-firsts_step sh R (Insert r) s h f o i e at n q = quiet sh R (Insert r) o i e s h.0 f at (λ m. (refl, refl)) (λ b. refl) n q
-firsts_step sh R (Update r) s h f o i e at n q = quiet sh R (Update r) o i e s h.0 f at (λ m. (refl, refl)) (λ b. refl) n q
-firsts_step sh R (Migrate r) s h f o i e at n q = quiet sh R (Migrate r) o i e s h.0 f at (λ m. (refl, refl)) (λ b. refl) n q
-firsts_step sh R (Return r) s h f o i e at n q = quiet sh R (Return r) o i e s h.0 f at (λ m. (refl, refl)) (λ b. refl) n q
-firsts_step sh R (Delete r) s h f o i e at n q = quiet sh R (Delete r) o i e s h.0 f at (λ m. (refl, refl)) (λ b. refl) n q
-firsts_step sh R (Commit r) s h f o i e at n q = quiet sh R (Commit r) o i e s h.0 f at (λ m. (refl, refl)) (λ b. refl) n q
-firsts_step sh R (Back r) s h f o i e at n q = quiet sh R (Back r) o i e s h.0 f at (λ m. (refl, refl)) (λ b. refl) n q
-firsts_step sh R (Ended r) s h f o i e at n q = quiet sh R (Ended r) o i e s h.0 f at (λ m. (refl, refl)) (λ b. refl) n q
-firsts_step sh R (Move r) s h f o i e at n q = quiet sh R (Move r) o i e s h.0 f at (λ m. (refl, refl)) (λ b. refl) n q
-firsts_step sh R (Clean r) s h f o i e at n q = quiet sh R (Clean r) o i e s h.0 f at (λ m. (refl, refl)) (λ b. refl) n q
+firsts_step sh R r s h f o i e at n q = quiet sh R r o i e s h.0 f at (λ m. (refl, refl)) (λ b. refl) n q
 
 firsts : (sh : Shape) (R : List Record) → is_shape sh ≡ true → AreAllowed sh R → FirstsSay sh R
 firsts sh [] s h = λ o i e at. absurd (let z : ◌≡◌ {A = Option Extent} None (Some e) = at in cc)

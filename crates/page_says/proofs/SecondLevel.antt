@@ -7,7 +7,7 @@ use Rattle.seg_base.specs.Places.{first_block, head_blocks, is_extent, is_shape}
 use Rattle.bitmap_block.specs.Codes.{cleared_from}
 use Rattle.bitmap_block.specs.Pages.{Summary}
 use Rattle.redo_record.specs.declared.record.Record.{Record}
-use Rattle.redo_record.specs.declared.record.Record.TheVariants.{Table, Movement, Extend, FormatBlock, Class, Advance, Lower, Begin, Reuse, Insert, Update, Migrate, Return, Delete, Commit, Back, Ended, Move, Clean}
+use Rattle.redo_record.specs.declared.record.Record.TheVariants.{Table, Extend, FormatBlock, Class, Lower, Reuse}
 use Rattle.redo_record.specs.declared.space.ExtendRecord.{ExtendRecord}
 use Rattle.redo_record.specs.declared.space.FormatBlockRecord.{FormatBlockRecord}
 use Rattle.redo_record.specs.declared.space.ClassRecord.{ClassRecord}
@@ -429,19 +429,7 @@ seconds_step sh R (Table t) s h f o i e at g n q = quiet sh R (Table t) o i e s 
 seconds_step sh R (Reuse r) s h f o i e at g n q = quiet sh R (Reuse r) o i e s h f at g
     (λ m. elim (eqb r.block m.dba) as (λ v. OnSecond (Kept m) (page_after (Reuse r) (suc (length R)) (or_kept (cond v (Some (new_undo m.dba r.sequence)) None) (pages.Second m)))) [ true ↦ tt | false ↦ refl ])
     (λ j. refl) n q
-seconds_step sh R (Movement r) s h f o i e at g n q = quiet sh R (Movement r) o i e s h f at g (λ m. refl) (λ j. refl) n q
-seconds_step sh R (Advance r) s h f o i e at g n q = quiet sh R (Advance r) o i e s h f at g (λ m. refl) (λ j. refl) n q
-seconds_step sh R (Begin r) s h f o i e at g n q = quiet sh R (Begin r) o i e s h f at g (λ m. refl) (λ j. refl) n q
-seconds_step sh R (Insert r) s h f o i e at g n q = quiet sh R (Insert r) o i e s h f at g (λ m. refl) (λ j. refl) n q
-seconds_step sh R (Update r) s h f o i e at g n q = quiet sh R (Update r) o i e s h f at g (λ m. refl) (λ j. refl) n q
-seconds_step sh R (Migrate r) s h f o i e at g n q = quiet sh R (Migrate r) o i e s h f at g (λ m. refl) (λ j. refl) n q
-seconds_step sh R (Return r) s h f o i e at g n q = quiet sh R (Return r) o i e s h f at g (λ m. refl) (λ j. refl) n q
-seconds_step sh R (Delete r) s h f o i e at g n q = quiet sh R (Delete r) o i e s h f at g (λ m. refl) (λ j. refl) n q
-seconds_step sh R (Commit r) s h f o i e at g n q = quiet sh R (Commit r) o i e s h f at g (λ m. refl) (λ j. refl) n q
-seconds_step sh R (Back r) s h f o i e at g n q = quiet sh R (Back r) o i e s h f at g (λ m. refl) (λ j. refl) n q
-seconds_step sh R (Ended r) s h f o i e at g n q = quiet sh R (Ended r) o i e s h f at g (λ m. refl) (λ j. refl) n q
-seconds_step sh R (Move r) s h f o i e at g n q = quiet sh R (Move r) o i e s h f at g (λ m. refl) (λ j. refl) n q
-seconds_step sh R (Clean r) s h f o i e at g n q = quiet sh R (Clean r) o i e s h f at g (λ m. refl) (λ j. refl) n q
+seconds_step sh R r s h f o i e at g n q = quiet sh R r o i e s h f at g (λ m. refl) (λ j. refl) n q
 
 seconds : (sh : Shape) (R : List Record) → is_shape sh ≡ true → AreAllowed sh R → SecondsSay sh R
 seconds sh [] s h = λ o i e at. absurd (let z : ◌≡◌ {A = Option Extent} None (Some e) = at in cc)

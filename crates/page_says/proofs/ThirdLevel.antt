@@ -6,7 +6,7 @@ use Rattle.seg_base.specs.declared.shape.Shape.{Shape}
 use Rattle.seg_base.specs.Places.{first_block, is_shape}
 use Rattle.bitmap_block.specs.Pages.{Summary}
 use Rattle.redo_record.specs.declared.record.Record.{Record}
-use Rattle.redo_record.specs.declared.record.Record.TheVariants.{Table, Movement, Extend, FormatBlock, Class, Advance, Lower, Begin, Reuse, Insert, Update, Migrate, Return, Delete, Commit, Back, Ended, Move, Clean}
+use Rattle.redo_record.specs.declared.record.Record.TheVariants.{Table, Extend, FormatBlock, Class, Lower, Reuse}
 use Rattle.redo_record.specs.declared.space.ExtendRecord.{ExtendRecord}
 use Rattle.redo_record.specs.declared.space.FormatBlockRecord.{FormatBlockRecord}
 use Rattle.redo_record.specs.declared.space.ClassRecord.{ClassRecord}
@@ -337,19 +337,7 @@ thirds_step sh R (Table t) s h f o e at n q = quiet sh R (Table t) o e s h f at
 thirds_step sh R (Reuse r) s h f o e at n q = quiet sh R (Reuse r) o e s h f at
     (λ m is. elim (eqb r.block m.dba) as (λ v. OnThird (Kept m) (page_after (Reuse r) (suc (length R)) (or_kept (cond v (Some (new_undo m.dba r.sequence)) None) (pages.Third m)))) [ true ↦ tt | false ↦ refl ])
     (λ j. refl) n q
-thirds_step sh R (Movement r) s h f o e at n q = quiet sh R (Movement r) o e s h f at (λ m is. refl) (λ j. refl) n q
-thirds_step sh R (Advance r) s h f o e at n q = quiet sh R (Advance r) o e s h f at (λ m is. refl) (λ j. refl) n q
-thirds_step sh R (Begin r) s h f o e at n q = quiet sh R (Begin r) o e s h f at (λ m is. refl) (λ j. refl) n q
-thirds_step sh R (Insert r) s h f o e at n q = quiet sh R (Insert r) o e s h f at (λ m is. refl) (λ j. refl) n q
-thirds_step sh R (Update r) s h f o e at n q = quiet sh R (Update r) o e s h f at (λ m is. refl) (λ j. refl) n q
-thirds_step sh R (Migrate r) s h f o e at n q = quiet sh R (Migrate r) o e s h f at (λ m is. refl) (λ j. refl) n q
-thirds_step sh R (Return r) s h f o e at n q = quiet sh R (Return r) o e s h f at (λ m is. refl) (λ j. refl) n q
-thirds_step sh R (Delete r) s h f o e at n q = quiet sh R (Delete r) o e s h f at (λ m is. refl) (λ j. refl) n q
-thirds_step sh R (Commit r) s h f o e at n q = quiet sh R (Commit r) o e s h f at (λ m is. refl) (λ j. refl) n q
-thirds_step sh R (Back r) s h f o e at n q = quiet sh R (Back r) o e s h f at (λ m is. refl) (λ j. refl) n q
-thirds_step sh R (Ended r) s h f o e at n q = quiet sh R (Ended r) o e s h f at (λ m is. refl) (λ j. refl) n q
-thirds_step sh R (Move r) s h f o e at n q = quiet sh R (Move r) o e s h f at (λ m is. refl) (λ j. refl) n q
-thirds_step sh R (Clean r) s h f o e at n q = quiet sh R (Clean r) o e s h f at (λ m is. refl) (λ j. refl) n q
+thirds_step sh R r s h f o e at n q = quiet sh R r o e s h f at (λ m is. refl) (λ j. refl) n q
 
 thirds : (sh : Shape) (R : List Record) → is_shape sh ≡ true → AreAllowed sh R → ThirdsSay sh R
 thirds sh [] s h = λ o e at. absurd (let z : ◌≡◌ {A = Option Extent} None (Some e) = at in cc)

@@ -7,3 +7,11 @@ pub mod FirstLevel
 pub mod SecondLevel
 pub mod ThirdLevel
 pub mod BestsRead
+pub mod Naming
+pub mod NamedLaw
+pub mod TwoTables
+pub mod Fields
+pub mod TxnFields
+pub mod SpaceFields
+pub mod RowFields
+pub mod SpelledLaw

@@ -8,8 +8,8 @@ Kept (Ok u) old new = Unit {0}
 Kept (Err Misfit) old new = Unit {0}
 Kept (Err NoMemory) old new = new ≡ old
 
--- what needs no memory fails only where it doesn't fit
+-- what needs no memory fails exactly where it doesn't fit
 abbrev pub IsMisfit : Result Unit Unfit → Type 0 → Type 0
-IsMisfit (Ok u) F = Unit {0}
+IsMisfit (Ok u) F = F
 IsMisfit (Err Misfit) F = F → ⊥
 IsMisfit (Err NoMemory) F = ⊥

@@ -13,6 +13,7 @@ use std::alloc::Global;
 
 fn add_table(alloc: Global, catalogue: &mut Catalogue, table: &TableRecord) -> Result<(), Unfit>
     ensures done { OnOk result (catalogue.new ≡ catalogue_changed (Table table.now) catalogue.old) }
+    ensures fits { OnOk result (CatalogueFits (Table table.now)) }
     ensures fault { CatalogueFits (Table table.now) → IfErr result (λ e. e ≡ faults.NoMemory) }
     ensures kept { Kept result catalogue.old catalogue.new }
 {
@@ -38,6 +39,7 @@ pub fn change_catalogue(
     lsn: Lsn,
 ) -> Result<(), Unfit>
     ensures done { OnOk result (catalogue.new ≡ catalogue_after rec.now lsn catalogue.old) }
+    ensures fits { OnOk result (CatalogueFits rec.now) }
     ensures fault { CatalogueFits rec.now → IfErr result (λ e. e ≡ faults.NoMemory) }
     ensures kept { Kept result catalogue.old catalogue.new }
 {

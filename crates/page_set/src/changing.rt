@@ -22,6 +22,7 @@ use std::alloc::Global;
 
 fn change_there(alloc: Global, page: &mut Page, rec: &Record, lsn: Lsn) -> Result<(), Unfit>
     ensures done { OnOk result (page.new ≡ page_after rec.now lsn page.old) }
+    ensures fits { OnOk result (PageFits rec.now page.old) }
     ensures fault { PageFits rec.now page.old → IfErr result (λ e. e ≡ faults.NoMemory) }
     ensures kept { Kept result page.old page.new }
 {
@@ -43,6 +44,7 @@ fn change_there(alloc: Global, page: &mut Page, rec: &Record, lsn: Lsn) -> Resul
 /// Misfit.
 pub fn changed(alloc: Global, page: &Page, rec: &Record, lsn: Lsn) -> Result<Page, Unfit>
     ensures done { IfOk result (λ p. p ≡ changed_page rec.now lsn page.now) }
+    ensures fits { OnOk result (Fits rec.now lsn page.now) }
     ensures fault { Fits rec.now lsn page.now → IfErr result (λ e. e ≡ faults.NoMemory) }
 {
     let mut made = start(alloc, page, rec, lsn)?;
@@ -53,6 +55,7 @@ pub fn changed(alloc: Global, page: &Page, rec: &Record, lsn: Lsn) -> Result<Pag
 /// The same in place. Without memory the page stays as it is.
 pub fn change(alloc: Global, page: &mut Page, rec: &Record, lsn: Lsn) -> Result<(), Unfit>
     ensures done { OnOk result (page.new ≡ changed_page rec.now lsn page.old) }
+    ensures fits { OnOk result (Fits rec.now lsn page.old) }
     ensures fault { Fits rec.now lsn page.old → IfErr result (λ e. e ≡ faults.NoMemory) }
     ensures kept { Kept result page.old page.new }
 {
@@ -69,6 +72,7 @@ pub fn change(alloc: Global, page: &mut Page, rec: &Record, lsn: Lsn) -> Result<
 /// A Commit put into the page that is there, which takes no memory.
 pub fn commit_in_place(page: &mut Page, c: CommitRecord, lsn: Lsn) -> Result<(), Unfit>
     ensures done { OnOk result (page.new ≡ changed_page (Commit c) lsn page.old) }
+    ensures fits { OnOk result (Fits (Commit c) lsn page.old) }
     ensures kept { OnErr result (page.new ≡ page.old) }
     ensures fault { Fits (Commit c) lsn page.old → IfErr result (λ e. ⊥) }
 {

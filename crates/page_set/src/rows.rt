@@ -18,6 +18,7 @@ use std::alloc::Global;
 
 fn put_image(alloc: Global, block: &mut RowBlock, slot: u8, image: &Slot) -> Result<(), Unfit>
     ensures done { OnOk result (block.new ≡ with_block block.old (put_slot slot image.now block.old.block)) }
+    ensures fits { OnOk result (CanPut block.old.block slot image.now) }
     ensures fault { CanPut block.old.block slot image.now → IfErr result (λ e. e ≡ faults.NoMemory) }
     ensures kept { Kept result block.old block.new }
 {
@@ -46,6 +47,7 @@ fn name_block(parts: &[RowPart], dba: Dba) -> bool
 #[tactic(auto, using(crate::proofs::Quiet::first_other, crate::proofs::Quiet::rest_other))]
 fn put_parts(alloc: Global, block: &mut RowBlock, parts: &[RowPart]) -> Result<(), Unfit>
     ensures done { OnOk result (block.new ≡ with_block block.old (with_images (written parts.now) block.old.dba block.old.block)) }
+    ensures fits { OnOk result (ImagesFit (written parts.now) block.old.dba block.old.block) }
     ensures fault { ImagesFit (written parts.now) block.old.dba block.old.block → IfErr result (λ e. e ≡ faults.NoMemory) }
     ensures quiet { is_among (blocks_of parts.now) block.old.dba ≡ false → block.new ≡ block.old }
     ensures kept { Kept result block.old block.new }
@@ -84,6 +86,7 @@ fn name_block_back(parts: &[BackPart], dba: Dba) -> bool
 #[tactic(auto, using(crate::proofs::Quiet::first_other, crate::proofs::Quiet::rest_other))]
 fn put_back(alloc: Global, block: &mut RowBlock, parts: &[BackPart]) -> Result<(), Unfit>
     ensures done { OnOk result (block.new ≡ with_block block.old (with_images (restored parts.now) block.old.dba block.old.block)) }
+    ensures fits { OnOk result (ImagesFit (restored parts.now) block.old.dba block.old.block) }
     ensures fault { ImagesFit (restored parts.now) block.old.dba block.old.block → IfErr result (λ e. e ≡ faults.NoMemory) }
     ensures quiet { is_among (back_blocks parts.now) block.old.dba ≡ false → block.new ≡ block.old }
     ensures kept { Kept result block.old block.new }
@@ -147,6 +150,8 @@ fn enter_parts(block: &mut RowBlock, txn: TxnId, parts: &[RowPart]) -> Result<()
 
 fn add_step(alloc: Global, block: &mut RowBlock, txn: TxnId, parts: &[RowPart]) -> Result<(), Unfit>
     ensures done { OnOk result (block.new ≡ with_block block.old (with_names parts.now txn block.old.dba (with_images (written parts.now) block.old.dba block.old.block))) }
+    ensures images { OnOk result (ImagesFit (written parts.now) block.old.dba block.old.block) }
+    ensures names { OnOk result (NamesFit parts.now txn block.old.dba (with_images (written parts.now) block.old.dba block.old.block)) }
     ensures fault { ImagesFit (written parts.now) block.old.dba block.old.block → NamesFit parts.now txn block.old.dba (with_images (written parts.now) block.old.dba block.old.block) → IfErr result (λ e. e ≡ faults.NoMemory) }
     ensures kept { Kept result block.old block.new }
 {
@@ -156,6 +161,7 @@ fn add_step(alloc: Global, block: &mut RowBlock, txn: TxnId, parts: &[RowPart]) 
 
 fn change(alloc: Global, block: &mut RowBlock, rec: &Record) -> Result<(), Unfit>
     ensures done { OnOk result (block.new ≡ with_block block.old (changed_block (effect_of rec.now) block.old.dba block.old.block)) }
+    ensures fits { OnOk result (EffectFits (effect_of rec.now) block.old.dba block.old.block) }
     ensures fault { EffectFits (effect_of rec.now) block.old.dba block.old.block → IfErr result (λ e. e ≡ faults.NoMemory) }
     ensures kept { Kept result block.old block.new }
 {
@@ -187,6 +193,7 @@ fn change(alloc: Global, block: &mut RowBlock, rec: &Record) -> Result<(), Unfit
 
 pub fn change_rows(alloc: Global, block: &mut RowBlock, rec: &Record, lsn: Lsn) -> Result<(), Unfit>
     ensures done { OnOk result (block.new ≡ rows_after (effect_of rec.now) lsn block.old) }
+    ensures fits { OnOk result (EffectFits (effect_of rec.now) block.old.dba block.old.block) }
     ensures fault { EffectFits (effect_of rec.now) block.old.dba block.old.block → IfErr result (λ e. e ≡ faults.NoMemory) }
     ensures kept { Kept result block.old block.new }
 {

@@ -1,12 +1,12 @@
 // The pages that records make anew.
-ghost use Rattle.std.specs.Prelude.{◌≡◌, ◌≤◌, IfOk, IfErr};
+ghost use Rattle.std.specs.Prelude.{◌≡◌, IfOk, IfErr};
 ghost use Rattle.page_set.specs.Changes.{Fits};
-ghost use Rattle.page_set.specs.Headers.{TableFits};
 ghost use Rattle.page_set.specs.Started.{as_txns, as_catalogue, as_space, table_started, extent_started, started, start};
 ghost use Rattle.page_set.specs.declared.fault.Unfit.TheVariants as faults;
 ghost use Rattle.redo_record.specs.declared.record.Record.TheVariants.{Table};
 
 use crate::fault::Unfit;
+use crate::header::table_fits;
 use crate::page::{Page, dba_of};
 use bitmap_block::{L1, L2, L3};
 use redo_record::{ExtendRecord, Record, TableRecord};
@@ -64,7 +64,7 @@ fn table_started(
         return Ok(as_catalogue(alloc, page)?);
     }
     let obj = table.obj;
-    if obj.0 == 0 || obj.0 > 32 || table.pctfree > 50 {
+    if !table_fits(table) {
         return Err(Unfit::Misfit);
     }
     Ok(Some(Page::Header(SegmentHeader::new(alloc, dba, obj, table.pctfree))))

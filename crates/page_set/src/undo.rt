@@ -45,6 +45,7 @@ fn keep(
 
 fn append(block: &mut UndoBlock, kept: Vec<Part>) -> Result<(), Unfit>
     ensures done { OnOk result (block.new ≡ record block.old { parts = block.old.parts ++ kept.items }) }
+    ensures fits { OnOk result ((used_by block.old.parts + used_by kept.items ≤ 4032) × AllByRecursion HasPartForm kept.items) }
     ensures fault { used_by block.old.parts + used_by kept.items ≤ 4032 → AllByRecursion HasPartForm kept.items → IfErr result (λ e. e ≡ faults.NoMemory) }
     ensures kept { Kept result block.old block.new }
 {
@@ -69,6 +70,7 @@ fn add(
 ) -> Result<(), Unfit>
     requires { length parts.now ≤ 3 }
     ensures done { OnOk result (block.new ≡ record block.old { parts = cond (eqb at block.old.dba) (block.old.parts ++ kept_parts txn previous (length parts.now) parts.now) block.old.parts }) }
+    ensures fits { OnOk result ((at ≡ block.old.dba) × (used_by block.old.parts + used_by (kept_parts txn previous (length parts.now) parts.now) ≤ 4032) × AllByRecursion HasPartForm (kept_parts txn previous (length parts.now) parts.now)) }
     ensures fault { at ≡ block.old.dba → used_by block.old.parts + used_by (kept_parts txn previous (length parts.now) parts.now) ≤ 4032 → AllByRecursion HasPartForm (kept_parts txn previous (length parts.now) parts.now) → IfErr result (λ e. e ≡ faults.NoMemory) }
     ensures kept { Kept result block.old block.new }
 {
@@ -83,6 +85,8 @@ fn add(
 fn add_row(alloc: Global, block: &mut UndoBlock, w: &RowBody) -> Result<(), Unfit>
     ensures done { OnOk result (block.new ≡ record block.old { parts = undo_changed (Adds (row_step w.now false)) block.old.dba block.old.parts }) }
     ensures deleted { OnOk result (block.new ≡ record block.old { parts = undo_changed (Adds (row_step w.now true)) block.old.dba block.old.parts }) }
+    ensures fits { OnOk result (StepFits (row_step w.now false) block.old) }
+    ensures fits_deleted { OnOk result (StepFits (row_step w.now true) block.old) }
     ensures fault { StepFits (row_step w.now false) block.old → IfErr result (λ e. e ≡ faults.NoMemory) }
     ensures fault_deleted { StepFits (row_step w.now true) block.old → IfErr result (λ e. e ≡ faults.NoMemory) }
     ensures kept { Kept result block.old block.new }
@@ -99,6 +103,7 @@ fn add_row(alloc: Global, block: &mut UndoBlock, w: &RowBody) -> Result<(), Unfi
 
 fn add_move(alloc: Global, block: &mut UndoBlock, m: &MoveRecord) -> Result<(), Unfit>
     ensures done { OnOk result (block.new ≡ record block.old { parts = undo_changed (Adds (move_step m.now)) block.old.dba block.old.parts }) }
+    ensures fits { OnOk result (StepFits (move_step m.now) block.old) }
     ensures fault { StepFits (move_step m.now) block.old → IfErr result (λ e. e ≡ faults.NoMemory) }
     ensures kept { Kept result block.old block.new }
 {
@@ -114,6 +119,7 @@ fn add_move(alloc: Global, block: &mut UndoBlock, m: &MoveRecord) -> Result<(), 
 
 fn change(alloc: Global, block: &mut UndoBlock, rec: &Record) -> Result<(), Unfit>
     ensures done { OnOk result (block.new ≡ record block.old { parts = undo_changed (effect_of rec.now) block.old.dba block.old.parts }) }
+    ensures fits { OnOk result (UndoFits rec.now block.old) }
     ensures fault { UndoFits rec.now block.old → IfErr result (λ e. e ≡ faults.NoMemory) }
     ensures kept { Kept result block.old block.new }
 {
@@ -141,6 +147,7 @@ pub fn change_undo(
     lsn: Lsn,
 ) -> Result<(), Unfit>
     ensures done { OnOk result (block.new ≡ undo_after (effect_of rec.now) lsn block.old) }
+    ensures fits { OnOk result (UndoFits rec.now block.old) }
     ensures fault { UndoFits rec.now block.old → IfErr result (λ e. e ≡ faults.NoMemory) }
     ensures kept { Kept result block.old block.new }
 {

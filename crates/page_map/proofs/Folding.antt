@@ -114,7 +114,7 @@ leads sh R r lsn qs new k e there is = record {
 
 -- ---- two records, one after the other
 
-over_is : (first ps : List Page) (base : Page) (d : ℕ) → d < length ps → base ≡ page_at ps d → over_in first base d ≡ page_at (installed first ps) d
+pub over_is : (first ps : List Page) (base : Page) (d : ℕ) → d < length ps → base ≡ page_at ps d → over_in first base d ≡ page_at (installed first ps) d
 over_is [] ps base d lt e = e
 over_is (p ∷ first) ps base d lt e =
     let lt2 : d < length (slice_set ps (dba_of p) p) = subst (λ (n : ℕ). d < n) (sym (length-set ps (dba_of p) p)) lt in

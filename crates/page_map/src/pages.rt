@@ -1,5 +1,5 @@
 // The pages of a store, block by block.
-ghost use Rattle.std.specs.Prelude.{◌≡◌, ◌<◌, ◌≤◌, ◌++◌, ◌∷◌, ◌^◌, ◌-◌, ◌+◌, [], suc, List, ℕ, length, slice_index_or, slice_set, IfOk, IfErr, IfSome, IsSome, IsNone, OnOk, OnErr};
+ghost use Rattle.std.specs.Prelude.{◌≡◌, ◌<◌, ◌≤◌, ◌++◌, ◌∷◌, ◌^◌, ◌-◌, ◌+◌, [], suc, List, ℕ, length, reverse, slice_index_or, slice_set, IfOk, IfErr, IfSome, IsSome, IsNone, OnOk, OnErr};
 ghost use Rattle.seg_base.specs.declared.shape.Shape.{Shape as TheShape};
 ghost use Rattle.redo_record.specs.declared.record.Record.{Record};
 ghost use Rattle.redo_record.specs.declared.record.Record.TheVariants.{Commit};
@@ -7,6 +7,7 @@ ghost use Rattle.page_set.specs.Pages.{dba_of};
 ghost use Rattle.page_set.specs.Changes.{changed_page, Fits};
 ghost use Rattle.page_set.specs.Folded.{touched_once};
 ghost use Rattle.page_map.specs.Pages.{page_at, over_in, HasPages, installed, made, AreThere, AreFit, Leads};
+ghost use Rattle.page_map.specs.Fitting.{FitsAt, WhyNotAt, WhyNotAmong, FitsAll, AreAllFit, WhyNotAdded, WhyNotFolded};
 ghost use Rattle.page_map.specs.declared.fault.PageFault.TheVariants as faults;
 
 use crate::PageFault;
@@ -70,7 +71,8 @@ fn changed_one(
     dba: Dba,
 ) -> Result<Page, PageFault>
     ensures done { IfOk result (λ page. page ≡ changed_page rec.now lsn (over_in first.now (page_at pages.now dba) dba)) }
-    ensures there { OnOk result (dba < length pages.now) }
+    ensures fits { OnOk result (FitsAt rec.now lsn first.now pages.now dba) }
+    ensures why { IfErr result (WhyNotAt rec.now lsn first.now pages.now dba) }
     ensures fault { dba < length pages.now → Fits rec.now lsn (over_in first.now (page_at pages.now dba) dba) → IfErr result (λ e. e ≡ faults.NoMemory) }
 {
     let at = dba.0 as usize;
@@ -84,7 +86,7 @@ fn changed_one(
     }
 }
 
-#[tactic(auto, using(crate::proofs::Folding::made_none, crate::proofs::Folding::made_next))]
+#[tactic(auto, using(crate::proofs::Folding::made_none, crate::proofs::Folding::made_next, crate::proofs::Replaying::why_first, crate::proofs::Replaying::why_rest))]
 fn make(
     alloc: Global,
     first: &[Page],
@@ -96,6 +98,8 @@ fn make(
 ) -> Result<(), PageFault>
     ensures done { OnOk result (new.new.items ≡ new.old.items ++ made rec.now lsn first.now pages.now blocks.now) }
     ensures there { OnOk result (AreThere (length pages.now) blocks.now) }
+    ensures fits { OnOk result (AreFit rec.now lsn first.now pages.now blocks.now) }
+    ensures why { IfErr result (WhyNotAmong rec.now lsn first.now pages.now blocks.now) }
     ensures fault { AreFit rec.now lsn first.now pages.now blocks.now → IfErr result (λ e. e ≡ faults.NoMemory) }
 {
     match blocks {
@@ -119,6 +123,8 @@ fn made(
 ) -> Result<Vec<Page>, PageFault>
     ensures done { IfOk result (λ new. new.items ≡ [] ++ made rec.now lsn first.now pages.now (touched_once shape.now rec.now)) }
     ensures there { OnOk result (AreThere (length pages.now) (touched_once shape.now rec.now)) }
+    ensures fits { OnOk result (AreFit rec.now lsn first.now pages.now (touched_once shape.now rec.now)) }
+    ensures why { IfErr result (WhyNotAmong rec.now lsn first.now pages.now (touched_once shape.now rec.now)) }
     ensures fault { AreFit rec.now lsn first.now pages.now (touched_once shape.now rec.now) → IfErr result (λ e. e ≡ faults.NoMemory) }
 {
     let blocks = touches(alloc, rec, shape)?;
@@ -176,6 +182,8 @@ impl Pages {
         lsn: Lsn,
     ) -> Result<Changed, PageFault>
         ensures leads { (R : List Record) → HasPages shape.now R self.now → lsn ≡ suc (length R) → IfOk result (Leads shape.now R (rec.now ∷ R)) }
+        ensures fits { OnOk result (AreFit rec.now lsn [] self.now (touched_once shape.now rec.now)) }
+        ensures why { IfErr result (WhyNotAmong rec.now lsn [] self.now (touched_once shape.now rec.now)) }
         ensures fault { AreFit rec.now lsn [] self.now (touched_once shape.now rec.now) → IfErr result (λ e. e ≡ faults.NoMemory) }
     {
         let pages = made(alloc, shape, &[], &self.pages, rec, lsn)?;
@@ -194,6 +202,8 @@ impl Pages {
     ) -> Result<Changed, PageFault>
         requires { lsn < 2 ^ 64 - 1 }
         ensures leads { (R : List Record) → HasPages shape.now R self.now → lsn ≡ suc (length R) → IfOk result (Leads shape.now R (second.now ∷ first.now ∷ R)) }
+        ensures fits { OnOk result (AreFit first.now lsn [] self.now (touched_once shape.now first.now)) }
+        ensures second_fits { OnOk result (AreFit second.now (lsn + 1) (made first.now lsn [] self.now (touched_once shape.now first.now)) self.now (touched_once shape.now second.now)) }
         ensures fault { AreFit first.now lsn [] self.now (touched_once shape.now first.now) → AreFit second.now (lsn + 1) (made first.now lsn [] self.now (touched_once shape.now first.now)) self.now (touched_once shape.now second.now) → IfErr result (λ e. e ≡ faults.NoMemory) }
     {
         let mut pages = made(alloc, shape, &[], &self.pages, first, lsn)?;
@@ -228,5 +238,40 @@ impl Pages {
         for page in changed.pages {
             put(&mut self.pages, page);
         }
+    }
+
+    /// Puts one more record into the pages that it touches, into all or none. `BadPage` names a block that the record touches
+    /// and that isn't there, or on whose page it doesn't fit.
+    #[tactic(auto, using(crate::proofs::Replaying::fits_all, crate::proofs::Replaying::not_added))]
+    pub fn add(
+        &mut self,
+        alloc: Global,
+        shape: &Shape,
+        rec: &Record,
+        lsn: Lsn,
+    ) -> Result<(), PageFault>
+        ensures leads { (R : List Record) → HasPages shape.now R self.old → lsn ≡ suc (length R) → OnOk result (HasPages shape.now (rec.now ∷ R) self.new) }
+        ensures fits { (R : List Record) → HasPages shape.now R self.old → lsn ≡ suc (length R) → OnOk result (FitsAll shape.now R rec.now) }
+        ensures fault { (R : List Record) → HasPages shape.now R self.old → lsn ≡ suc (length R) → IfErr result (WhyNotAdded shape.now R rec.now) }
+        ensures kept { OnErr result (self.new ≡ self.old) }
+    {
+        let changed = self.prepare(alloc, shape, rec, lsn)?;
+        self.install(changed);
+        Ok(())
+    }
+
+    /// The pages of a store after some records. `BadPage` comes exactly where a record doesn't fit on each page that it
+    /// touches: it names such a page of the first such record.
+    #[tactic(auto, using(crate::proofs::Replaying::none_in, crate::proofs::Replaying::one_more_in, crate::proofs::Replaying::all_in, crate::proofs::Replaying::all_fit, crate::proofs::Replaying::stops_in))]
+    pub fn after(alloc: Global, shape: &Shape, records: &[Record]) -> Result<Pages, PageFault>
+        ensures pages { IfOk result (HasPages shape.now (reverse records.now)) }
+        ensures fits { OnOk result (AreAllFit shape.now (reverse records.now)) }
+        ensures fault { IfErr result (WhyNotFolded shape.now (reverse records.now)) }
+    {
+        let mut pages = Pages::new(alloc, shape)?;
+        for (i, rec) in records.iter().enumerate() {
+            pages.add(alloc, shape, rec, Lsn(i as u64 + 1))?;
+        }
+        Ok(pages)
     }
 }

@@ -85,7 +85,7 @@ use Rattle.page_fit.proofs.LowPages.{IsCatalogue, catalogue_stands, IsSpace, spa
 
 -- pages of a sort
 
-is_rows : (p : Page) → sort_name p ≡ Some Rows → (x : RowPage) × (p ≡ pages.Rows x)
+pub is_rows : (p : Page) → sort_name p ≡ Some Rows → (x : RowPage) × (p ≡ pages.Rows x)
 is_rows (pages.Zero x) e = absurd (let z : ◌≡◌ {A = Option Sort} (Some Blank) (Some Rows) = e in let y : Blank ≡ Rows = cc in let w : Blank ≡ Rows = y in cc)
 is_rows (pages.Checkpoint x) e = absurd (let z : ◌≡◌ {A = Option Sort} None (Some Rows) = e in cc)
 is_rows (pages.Txns x) e = absurd (let z : ◌≡◌ {A = Option Sort} (Some Txns) (Some Rows) = e in let y : Txns ≡ Rows = cc in let w : Txns ≡ Rows = y in cc)
@@ -98,7 +98,7 @@ is_rows (pages.Third x) e = absurd (let z : ◌≡◌ {A = Option Sort} (Some Th
 is_rows (pages.Header x) e = absurd (let z : ◌≡◌ {A = Option Sort} None (Some Rows) = e in cc)
 is_rows (pages.Rows x) e = (x, refl)
 
-is_undo : (p : Page) → sort_name p ≡ Some Undo → (x : UndoPage) × (p ≡ pages.Undo x)
+pub is_undo : (p : Page) → sort_name p ≡ Some Undo → (x : UndoPage) × (p ≡ pages.Undo x)
 is_undo (pages.Zero x) e = absurd (let z : ◌≡◌ {A = Option Sort} (Some Blank) (Some Undo) = e in let y : Blank ≡ Undo = cc in let w : Blank ≡ Undo = y in cc)
 is_undo (pages.Checkpoint x) e = absurd (let z : ◌≡◌ {A = Option Sort} None (Some Undo) = e in cc)
 is_undo (pages.Txns x) e = absurd (let z : ◌≡◌ {A = Option Sort} (Some Txns) (Some Undo) = e in let y : Txns ≡ Undo = cc in let w : Txns ≡ Undo = y in cc)
@@ -111,7 +111,7 @@ is_undo (pages.Third x) e = absurd (let z : ◌≡◌ {A = Option Sort} (Some Th
 is_undo (pages.Header x) e = absurd (let z : ◌≡◌ {A = Option Sort} None (Some Undo) = e in cc)
 is_undo (pages.Rows x) e = absurd (let z : ◌≡◌ {A = Option Sort} (Some Rows) (Some Undo) = e in let y : Rows ≡ Undo = cc in let w : Rows ≡ Undo = y in cc)
 
-is_txns : (p : Page) → sort_name p ≡ Some Txns → (x : TxnTable) × (p ≡ pages.Txns x)
+pub is_txns : (p : Page) → sort_name p ≡ Some Txns → (x : TxnTable) × (p ≡ pages.Txns x)
 is_txns (pages.Zero x) e = absurd (let z : ◌≡◌ {A = Option Sort} (Some Blank) (Some Txns) = e in let y : Blank ≡ Txns = cc in let w : Blank ≡ Txns = y in cc)
 is_txns (pages.Checkpoint x) e = absurd (let z : ◌≡◌ {A = Option Sort} None (Some Txns) = e in cc)
 is_txns (pages.Txns x) e = (x, refl)
@@ -163,7 +163,7 @@ is_third (pages.Third x) e = (x, refl)
 is_third (pages.Header x) e = absurd (let z : ◌≡◌ {A = Option Sort} None (Some Third) = e in cc)
 is_third (pages.Rows x) e = absurd (let z : ◌≡◌ {A = Option Sort} (Some Rows) (Some Third) = e in let y : Rows ≡ Third = cc in let w : Rows ≡ Third = y in cc)
 
-is_zero : (p : Page) → sort_name p ≡ Some Blank → (x : ℕ) × (p ≡ pages.Zero x)
+pub is_zero : (p : Page) → sort_name p ≡ Some Blank → (x : ℕ) × (p ≡ pages.Zero x)
 is_zero (pages.Zero x) e = (x, refl)
 is_zero (pages.Checkpoint x) e = absurd (let z : ◌≡◌ {A = Option Sort} None (Some Blank) = e in cc)
 is_zero (pages.Txns x) e = absurd (let z : ◌≡◌ {A = Option Sort} (Some Txns) (Some Blank) = e in let y : Txns ≡ Blank = cc in let w : Txns ≡ Blank = y in cc)
@@ -260,7 +260,7 @@ named_in sh R (Commit x) d h m = absurd (true≢false (sym m))
 named_in sh R (Ended x) d h m = absurd (true≢false (sym m))
 
 -- a row block is no header, where no table waits for its Extend
-row_plain : (sh : Shape) (R : List Record) (o d : ℕ) → is_shape sh ≡ true → AreAllowed sh R → ((p : ℕ) → IsTable R p → Standing sh R p) → IsRowBlock sh R o d → Plain R d
+pub row_plain : (sh : Shape) (R : List Record) (o d : ℕ) → is_shape sh ≡ true → AreAllowed sh R → ((p : ℕ) → IsTable R p → Standing sh R p) → IsRowBlock sh R o d → Plain R d
 row_plain sh R o d s h stand x =
     let m = home_in sh R o d x in
     let b = (data_bound sh R o d h m).0 in
@@ -286,7 +286,7 @@ in_plain sh R d n (Some x) s h lt e = head_plain sh R x.number n d h (limits sh 
 pub one_plain : (sh : Shape) (R : List Record) → AreAllowed sh R → Plain R 1
 one_plain sh R h = low_plain sh R 1 h (λ k. omega (arith, k)) (λ k. omega (arith, k)) (omega arith)
 
-undo_plain : (sh : Shape) (R : List Record) (d : ℕ) → AreAllowed sh R → 37 ≤ d → d < 37 + sh.undo → Plain R d
+pub undo_plain : (sh : Shape) (R : List Record) (d : ℕ) → AreAllowed sh R → 37 ≤ d → d < 37 + sh.undo → Plain R d
 undo_plain sh R d h from to = low_plain sh R d h (λ k. omega (arith, k, from)) (λ k. omega (arith, k, from)) to
 
 first_plain : (sh : Shape) (R : List Record) (o b : ℕ) → is_shape sh ≡ true → AreAllowed sh R → is_in b (data_blocks sh R o) ≡ true → Plain R (first_of sh b)
@@ -731,7 +731,7 @@ kinds_fit sh R (Clean c) d s h a t' m = rows_fit sh R (Clean c) d (PageFits (Cle
 pub records_fit_pages : RecordsFitPages
 records_fit_pages sh R r d s h t m = kinds_fit sh R r d s h h.1.kind t m
 
-stands_whole : (sh : Shape) (R : List Record) (o : ℕ) → is_whole R ≡ true → Headed sh R o → Standing sh R o
+pub stands_whole : (sh : Shape) (R : List Record) (o : ℕ) → is_whole R ≡ true → Headed sh R o → Standing sh R o
 stands_whole sh R o w (inl z) = z
 stands_whole sh R o w (inr a) = absurd (true≢false (sym w ∙ ap is_whole a.is))
 

@@ -110,27 +110,27 @@ row_says R r w del t lsn k on e same users n h =
 
 -- before the first Begin
 
-no_control : (R : List Record) → txn_count R ≡ 0 → control_number R ≡ 0
+pub no_control : (R : List Record) → txn_count R ≡ 0 → control_number R ≡ 0
 no_control [] n = refl
 no_control (Begin g ∷ R) n = absurd (omega (arith, n))
 no_control (Commit c ∷ R) n = no_control R n
 no_control (Ended c ∷ R) n = no_control R n
 no_control (_ ∷ R) n = no_control R n
 
-no_user : (R : List Record) (i : ℕ) → txn_count R ≡ 0 → user_of R i ≡ None
+pub no_user : (R : List Record) (i : ℕ) → txn_count R ≡ 0 → user_of R i ≡ None
 no_user [] i n = refl
 no_user (Begin g ∷ R) i n = absurd (omega (arith, n))
 no_user (Commit c ∷ R) i n = no_user R i n
 no_user (Ended c ∷ R) i n = no_user R i n
 no_user (_ ∷ R) i n = no_user R i n
 
-no_row : (sh : Shape) (R : List Record) → AreAllowed sh R → txn_count R ≡ 0 → row_count R ≡ 0
+pub no_row : (sh : Shape) (R : List Record) → AreAllowed sh R → txn_count R ≡ 0 → row_count R ≡ 0
 no_row sh [] h n = refl
 no_row sh (Insert w ∷ R) h n = (let l = table_counts sh R (Insert w) h h.1.kind refl in absurd (omega (arith, l, n)))
 no_row sh (Begin g ∷ R) h n = absurd (omega (arith, n))
 no_row sh (_ ∷ R) h n = no_row sh R h.0 n
 
-abbrev CalledFor : List Record → Type 0
+abbrev pub CalledFor : List Record → Type 0
 CalledFor (Reuse q ∷ R) = Unit {0}
 CalledFor _ = ⊥
 
@@ -139,7 +139,7 @@ called_adds (Reuse q ∷ R) r c k = called_step R (effect_of r) k
 called_adds [] r c k = absurd c
 called_adds (x ∷ R) r c k = absurd c
 
-no_current : (sh : Shape) (R : List Record) → AreAllowed sh R → txn_count R ≡ 0 → (current_undo R ≡ None) ⊎ CalledFor R
+pub no_current : (sh : Shape) (R : List Record) → AreAllowed sh R → txn_count R ≡ 0 → (current_undo R ≡ None) ⊎ CalledFor R
 no_current sh [] h n = inl refl
 no_current sh (Reuse q ∷ R) h n = inr tt
 no_current sh (Begin g ∷ R) h n = absurd (omega (arith, n))

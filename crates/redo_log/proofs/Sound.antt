@@ -18,6 +18,8 @@ use Rattle.redo_log.specs.Groups.{Between, Walked, BadPayload, IsWrong}
 use Rattle.redo_log.specs.Found.{IsOpening, IsFound, AnswersInMemory, WalkBreaks}
 use Rattle.redo_log.specs.declared.fault.LogFault.{LogFault}
 use Rattle.redo_log.specs.declared.fault.LogFault.TheVariants.{DeviceFault, NotOpen, BadLog, NoMemory}
+use Rattle.log_frame.specs.Ready.{IsReady}
+use Rattle.redo_log.proofs.Acknowledging.{begins}
 use Rattle.redo_log.proofs.Once.{holds_once, never_breaks}
 
 ends_walk : (file : List ℕ) (from at : ℕ) (groups : List (List ℕ)) → Between file from groups at → size_found file at ≡ Ok None → Walks file from groups (Ok at)
@@ -83,7 +85,9 @@ module _ (shape : Shape) (before after : List (List ℕ)) (file : List ℕ) (fro
       settles = settles_looked meaning Log old new (IsLog shape (before ++ after)) settled look (subst (IsLog shape (before ++ after)) (sym here) log)
 
       at : (result : Result Kept LogFault) → AnswersInMemory result (λ l. HasList after R0 R l × (63 + length (frames (before ++ after)) ≡ l.end) × (l.waiting.bytes ≡ [])) → AnswersInMemory result (λ l. IsOpened meaning new shape (before ++ after) after R0 R l)
-      at (Ok l) is = record { list = is.0; ready = record { settled = settles.settled; log = settles.holds; at_end = is.1 }; none = is.2 }
+      at (Ok l) is =
+          let ready : IsReady meaning new shape (before ++ after) l.end = record { settled = settles.settled; log = settles.holds; at_end = is.1 } in
+          record { list = is.0; ready = ready; none = is.2; lasts = begins meaning shape (before ++ after) l.end new ready }
       at (Err DeviceFault) is = tt
       at (Err NotOpen) is = is
       at (Err (BadLog offset seen)) is = is

@@ -1,5 +1,5 @@
 -- What survives a crash while records become stable.
-use Rattle.std.specs.Prelude.{◌≡◌, ◌⊎◌, ℕ, List, []}
+use Rattle.std.specs.Prelude.{◌≡◌, ◌⊎◌, ℕ, List, [], ◌∷◌, length}
 use Rattle.seg_base.specs.declared.shape.Shape.{Shape}
 use Rattle.disk_model.specs.Crash.{Meaning}
 use Rattle.log_frame.specs.Spelling.{IsLog}
@@ -14,12 +14,18 @@ pub record Lasts {D : Type 0} (meaning : Meaning D) (since : ℕ) (shape : Shape
   pub survives : Survives meaning since shape groups acknowledged disk
   pub made : AreMade groups (meaning.clock disk) acknowledged
 
+-- at this moment all these groups are acknowledged
+abbrev pub all_now : List (List ℕ) → ℕ → Acknowledged
+all_now groups moment = record { moment = moment; groups = length groups }
+
 -- the groups as they were, or with one of these bytes
 abbrev pub GroupOrNone : Shape → List (List ℕ) → List ℕ → List ℕ → Type 0
 GroupOrNone shape groups bytes file = IsLog shape groups file ⊎ IsLog shape (with_group groups bytes) file
 
--- A log that was opened on the log of a store, from the gate behind which these groups stand: its list, and the disk.
+-- A log that was opened on the log of a store, from the gate behind which these groups stand: its list, and the disk. All
+-- groups that are there are acknowledged from this moment on.
 pub record IsOpened {D : Type 0} (meaning : Meaning D) (disk : D) (shape : Shape) (groups after : List (List ℕ)) (R0 R : List Record) (log : Kept) : Type 0 where
   pub list : HasList after R0 R log
   pub ready : IsReady meaning disk shape groups log.end
   pub none : log.waiting.bytes ≡ []
+  pub lasts : Lasts meaning (meaning.clock disk) shape groups (all_now groups (meaning.clock disk) ∷ []) disk

@@ -12,7 +12,7 @@ ghost use Rattle.redo_record.specs.declared.record.Record.{Record};
 ghost use Rattle.redo_record.specs.declared.record.Record.TheVariants.{Commit};
 ghost use Rattle.redo_record.specs.Spelled.{HasSpelling};
 ghost use Rattle.redo_log.specs.Kept.{HasList, Stays, with_group};
-ghost use Rattle.redo_log.specs.Lasting.{Lasts, GroupOrNone};
+ghost use Rattle.redo_log.specs.Lasting.{Lasts, GroupOrNone, all_now};
 ghost use Rattle.redo_log.specs.Found.{IsReadFrom};
 
 use crate::LogFault;
@@ -63,6 +63,14 @@ impl RedoLog {
         })
     }
 
+    /// The log's end: the place of the gate behind its last stable group, from which `open` finds no record. A checkpoint
+    /// states it, with the number of the last stable record.
+    pub fn end(&self) -> u64
+        ensures { result ≡ self.now.end }
+    {
+        self.file.end()
+    }
+
     /// How many bytes the records have that aren't stable.
     pub fn unwritten(&self) -> u64
         ensures { result ≡ length self.now.waiting.bytes }
@@ -75,6 +83,13 @@ impl RedoLog {
         ensures { result ≡ self.now.stable }
     {
         self.stable
+    }
+
+    /// The number of the last record.
+    pub fn count(&self) -> Lsn
+        ensures { result ≡ self.now.count }
+    {
+        self.count
     }
 
     /// Adds a record at the end, and answers its number. Without memory nothing is added.
@@ -155,7 +170,8 @@ impl RedoLog {
     }
 
     /// Writes the records that wait as one group, where any wait. At any moment of the call a crash leaves the log as it
-    /// was or with this group. At `Ok` all records are stable. It takes no memory.
+    /// was or with this group. At `Ok` all records are stable: all groups of the log are acknowledged from this moment on. It
+    /// takes no memory.
     pub fn flush<D: Disk>(&mut self, disk: &mut D) -> Result<(), LogFault>
         ensures any_moment { (shape : Shape) (groups : List (List ℕ)) → IsReady D.meaning disk.old shape groups self.old.end
             → Leaves D.meaning disk.old disk.new (OnlyFile D.meaning disk.old Log (GroupOrNone shape groups self.old.waiting.bytes)) }
@@ -164,6 +180,8 @@ impl RedoLog {
         ensures ready { (shape : Shape) (groups : List (List ℕ)) → IsReady D.meaning disk.old shape groups self.old.end
             → OnOk result (IsReady D.meaning disk.new shape (with_group groups self.old.waiting.bytes) self.new.end) }
         ensures list { (groups : List (List ℕ)) (R0 R : List Record) → HasList groups R0 R self.old → OnOk result (HasList (with_group groups self.old.waiting.bytes) R0 R self.new) }
+        ensures acknowledged { (since : ℕ) (shape : Shape) (groups : List (List ℕ)) (acknowledged : List Acknowledged) → IsReady D.meaning disk.old shape groups self.old.end
+            → Lasts D.meaning since shape groups acknowledged disk.old → OnOk result (Lasts D.meaning since shape (with_group groups self.old.waiting.bytes) (all_now (with_group groups self.old.waiting.bytes) (D.meaning.clock disk.new) ∷ acknowledged) disk.new) }
         ensures refused { OnErr result (Stays self.old self.new) }
         ensures stable { OnOk result (self.new.stable ≡ self.old.count) }
         ensures count { OnOk result (self.new.count ≡ self.old.count) }

@@ -1,7 +1,8 @@
 use Rattle.std.proofs.Common.{◌≡◌, ◌≤◌, ℕ, List, [], length, refl, sym, ap, ◌∙◌, subst}
 use Rattle.log_frame.specs.Ready.{IsReady}
-use Rattle.redo_log.specs.Kept.{Kept}
+use Rattle.redo_log.specs.Kept.{Kept, with_group}
 use Rattle.redo_log.proofs.Adding.{leaves_some, leaves_none, lasts_some, lasts_none, ready_some, ready_none, list_some, none_waits}
+use Rattle.redo_log.proofs.Acknowledging.{all_last}
 use Rattle.redo_log.proofs.log.RedoLog.flush.Goals as goal
 
 pub returns-then-is_empty-clause-any_moment : goal.returns-then-is_empty-clause-any_moment
@@ -54,3 +55,11 @@ pub returns-in-Ok-clause-list : goal.returns-in-Ok-clause-list
 returns-in-Ok-clause-list g c groups R0 R list =
     let some : 1 ≤ length c.args.self.now.waiting.bytes = subst (λ (k : Kept). 1 ≤ length k.waiting.bytes) c.self.view_is (c.is_empty.ensures.no c.if-is_empty.false) in
     list_some groups c.args.self.now.waiting.bytes R0 R c.write_group.new.self some (c.in-Ok.ensures.list groups R0 R list)
+
+pub returns-then-is_empty-clause-acknowledged : goal.returns-then-is_empty-clause-acknowledged
+returns-then-is_empty-clause-acknowledged g c since shape groups acknowledged ready lasts =
+    all_last g.D.Disk.meaning shape (with_group groups c.args.self.now.waiting.bytes) _ c.args.disk.now (returns-then-is_empty-clause-ready g c shape groups ready) since acknowledged (returns-then-is_empty-clause-survives g c since shape groups acknowledged ready lasts)
+
+pub returns-in-Ok-clause-acknowledged : goal.returns-in-Ok-clause-acknowledged
+returns-in-Ok-clause-acknowledged g c since shape groups acknowledged ready lasts =
+    all_last g.D.Disk.meaning shape (with_group groups c.args.self.now.waiting.bytes) _ c.write_group.new.disk (returns-in-Ok-clause-ready g c shape groups ready) since acknowledged (returns-in-Ok-clause-survives g c since shape groups acknowledged ready lasts)

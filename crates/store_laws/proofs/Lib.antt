@@ -1,3 +1,4 @@
 pub mod There
 pub mod PuttingLaw
 pub mod KindsLaw
+pub mod FoundLaw

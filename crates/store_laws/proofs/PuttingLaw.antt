@@ -17,7 +17,7 @@ use Rattle.page_map.proofs.Folding.{one_step, over_is}
 use Rattle.sort_laws.proofs.MeetsLaw.{called_reuses_find_table}
 use Rattle.page_fit.specs.FitPages.{IsTabled}
 use Rattle.page_fit.proofs.FitLaw.{records_fit_pages}
-use Rattle.store_laws.specs.Putting.{PairFits, RecordsFit, PairsFit, LawfulListsFit}
+use Rattle.store_laws.specs.Putting.{PairFits, RecordsFit, PairsFit, FittingRecordsFit, FittingPairsFit, LawfulListsFit}
 use Rattle.store_laws.proofs.There.{all_there}
 
 -- on the pages of the fold
@@ -53,11 +53,11 @@ are_fit sh R r lsn first ps (d ∷ ds) count e same h = (
   are_fit sh R r lsn first ps ds count e same h.1,
 )
 
-one_fits : (sh : Shape) (R : List Record) (r : Record) (ps : List Page) → HasPages sh R ps → FitsAll sh R r → AreFit r (suc (length R)) [] ps (touched_once sh r)
-one_fits sh R r ps has fits = are_fit sh R r (suc (length R)) [] ps (touched_once sh r) has.count refl has.each (listed sh R r fits)
+pub fitting_records_fit : FittingRecordsFit
+fitting_records_fit sh R r ps has fits = are_fit sh R r (suc (length R)) [] ps (touched_once sh r) has.count refl has.each (listed sh R r fits)
 
 pub records_fit : RecordsFit
-records_fit sh R r ps s h t has = one_fits sh R r ps has (fits_all sh R r s h t)
+records_fit sh R r ps s h t has = fitting_records_fit sh R r ps has (fits_all sh R r s h t)
 
 -- the record that another calls for is no Reuse
 called_tabled : (sh : Shape) (R : List Record) (a b : Record) → AreAllowed sh (b ∷ a ∷ R) → is_whole (a ∷ R) ≡ false → IsTabled (a ∷ R) b
@@ -87,17 +87,18 @@ followed_tabled : (sh : Shape) (R : List Record) (a b : Record) → is_shape sh 
 followed_tabled sh R (Reuse q) b s h = (called_reuses_find_table sh R q b s h).0
 followed_tabled sh R _ b s h = tt
 
-pub pairs_fit : PairsFit
-pairs_fit sh R a b ps s h w has =
-    let first : FitsAll sh R a = fits_all sh R a s h.0 (followed_tabled sh R a b s h) in
-    let second : FitsAll sh (a ∷ R) b = fits_all sh (a ∷ R) b s h (called_tabled sh R a b h w) in
+pub fitting_pairs_fit : FittingPairsFit
+fitting_pairs_fit sh R a b ps has first second =
     let new : List Page = made a (suc (length R)) [] ps (touched_once sh a) in
     let next : HasPages sh (a ∷ R) (installed new ps) = one_step sh R a ps ps has has (are_there sh R a (touched_once sh a) (listed sh R a first)) in
     record {
-      first = one_fits sh R a ps has first;
+      first = fitting_records_fit sh R a ps has first;
       second = are_fit sh (a ∷ R) b (suc (length R) + 1) new ps (touched_once sh b) has.count (omega arith)
           (λ d lt. over_is new ps (page_at ps d) d (subst (λ (n : ℕ). d < n) (sym has.count) lt) refl ∙ next.each d lt) (listed sh (a ∷ R) b second);
     }
+
+pub pairs_fit : PairsFit
+pairs_fit sh R a b ps s h w has = fitting_pairs_fit sh R a b ps has (fits_all sh R a s h.0 (followed_tabled sh R a b s h)) (fits_all sh (a ∷ R) b s h (called_tabled sh R a b h w))
 
 -- ---- whole lists
 

@@ -1,13 +1,15 @@
 -- Which page a block has after a lawful list of records, and what it holds, in the words of those who read it.
-use Rattle.std.specs.Prelude.{◌≡◌, ℕ, ◌≤◌, true, List, replicate, None}
+use Rattle.std.specs.Prelude.{◌≡◌, ℕ, ◌≤◌, true, List, position, replicate, Some, None}
 use Rattle.seg_words.specs.Types.{Shape, TXN_ENTRIES, is_shape}
 use Rattle.row_block.specs.RowPage.{RowPage}
 use Rattle.undo_block.specs.UndoPage.{UndoPage}
 use Rattle.txn_block.specs.declared.entry.TableEntry.TheVariants.{Unused}
+use Rattle.txn_block.specs.Entries.{names}
 use Rattle.txn_block.specs.Tables.{TxnTable}
 use Rattle.redo_record.specs.declared.record.Record.{Record}
 use Rattle.redo_model.specs.Ordinals.{txn_count}
 use Rattle.redo_model.specs.Segments.{IsRowBlock}
+use Rattle.redo_model.specs.Transactions.{is_active, entry_of}
 use Rattle.redo_model.specs.Lawful.{AreAllowed, is_whole, IsLawful}
 use Rattle.version_laws.specs.Pages.{HoldsTable, HoldsUndo, HoldsRows, IsInUse}
 use Rattle.page_set.specs.declared.page.Page.TheVariants.{Zero, Txns, Undo, Rows}
@@ -23,6 +25,14 @@ pub record HasTable (sh : Shape) (R : List Record) : Type 0 where
 -- from the first Begin on the block has the transaction table
 abbrev pub TablesStand : Type 0
 TablesStand = (sh : Shape) (R : List Record) → is_shape sh ≡ true → AreAllowed sh R → 1 ≤ txn_count R → HasTable sh R
+
+-- so while a transaction is active
+abbrev pub ActiveHaveTable : Type 0
+ActiveHaveTable = (sh : Shape) (R : List Record) (u : ℕ) → is_shape sh ≡ true → AreAllowed sh R → is_active R u ≡ true → HasTable sh R
+
+-- looking there for an active transaction finds the place of its entry
+abbrev pub EntriesAreFound : Type 0
+EntriesAreFound = (sh : Shape) (R : List Record) (u i : ℕ) (t : TxnTable) → is_shape sh ≡ true → AreAllowed sh R → page_of sh R 1 ≡ Txns t → is_active R u ≡ true → entry_of R u ≡ Some i → position (names u) t.entries ≡ Some i
 
 -- a table in which nothing stands
 abbrev pub new_table : TxnTable

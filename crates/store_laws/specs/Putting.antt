@@ -7,7 +7,7 @@ use Rattle.redo_model.specs.Lawful.{AreAllowed, is_whole, IsLawful}
 use Rattle.page_set.specs.declared.page.Page.{Page}
 use Rattle.page_set.specs.Folded.{touched_once}
 use Rattle.page_map.specs.Pages.{HasPages, made, AreFit}
-use Rattle.page_map.specs.Fitting.{AreAllFit}
+use Rattle.page_map.specs.Fitting.{FitsAll, AreAllFit}
 use Rattle.page_fit.specs.FitPages.{IsTabled}
 
 abbrev pub RecordsFit : Type 0
@@ -17,6 +17,13 @@ RecordsFit = (sh : Shape) (R : List Record) (r : Record) (ps : List Page) → is
 pub record PairFits (sh : Shape) (R : List Record) (a b : Record) (ps : List Page) : Type 0 where
   pub first : AreFit a (suc (length R)) [] ps (touched_once sh a)
   pub second : AreFit b (suc (length R) + 1) (made a (suc (length R)) [] ps (touched_once sh a)) ps (touched_once sh b)
+
+-- Of any list: what fits on the pages of the list fits on the pages of a store that has them.
+abbrev pub FittingRecordsFit : Type 0
+FittingRecordsFit = (sh : Shape) (R : List Record) (r : Record) (ps : List Page) → HasPages sh R ps → FitsAll sh R r → AreFit r (suc (length R)) [] ps (touched_once sh r)
+
+abbrev pub FittingPairsFit : Type 0
+FittingPairsFit = (sh : Shape) (R : List Record) (a b : Record) (ps : List Page) → HasPages sh R ps → FitsAll sh R a → FitsAll sh (a ∷ R) b → PairFits sh R a b ps
 
 -- of a record that calls for another, and that one
 abbrev pub PairsFit : Type 0

@@ -2,8 +2,8 @@
 //! which page each block has. Each is the contract of a function that does nothing.
 #![tactic(auto)]
 
-ghost use Rattle.store_laws.specs.Kinds.{RowsAreHeld, RowsStand, TablesAreNew, TablesStand, UndoIsHeld, UndoStands};
-ghost use Rattle.store_laws.specs.Putting.{LawfulListsFit, PairsFit, RecordsFit};
+ghost use Rattle.store_laws.specs.Kinds.{ActiveHaveTable, EntriesAreFound, RowsAreHeld, RowsStand, TablesAreNew, TablesStand, UndoIsHeld, UndoStands};
+ghost use Rattle.store_laws.specs.Putting.{FittingPairsFit, FittingRecordsFit, LawfulListsFit, PairsFit, RecordsFit};
 
 /// An allowed record fits on the page of each block that it touches, and each of these blocks is there; but for a Reuse
 /// before any transaction, which comes with the record that it was made for.
@@ -16,6 +16,16 @@ pub fn pairs_fit()
     ensures { PairsFit }
 {}
 
+/// What fits on the pages of a list fits on the pages of a store that has them, whatever the list.
+pub fn fitting_records_fit()
+    ensures { FittingRecordsFit }
+{}
+
+/// So does a record after another.
+pub fn fitting_pairs_fit()
+    ensures { FittingPairsFit }
+{}
+
 /// Each record of a lawful list fits on the pages that it touches, as the records before it leave them: the pages of such a
 /// list can be made from an empty store.
 pub fn lawful_lists_fit()
@@ -25,6 +35,16 @@ pub fn lawful_lists_fit()
 /// From the first Begin on block 1 has the page of the transaction table, and it holds what the list says.
 pub fn tables_stand()
     ensures { TablesStand }
+{}
+
+/// So while a transaction is active.
+pub fn active_have_table()
+    ensures { ActiveHaveTable }
+{}
+
+/// Looking in the table for an active transaction finds the place of its entry.
+pub fn entries_are_found()
+    ensures { EntriesAreFound }
 {}
 
 /// Before the first Begin block 1 was never written, and a new table holds what the list says.

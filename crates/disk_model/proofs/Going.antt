@@ -1,10 +1,8 @@
 -- How a run of calls goes on.
-use Rattle.std.proofs.Common.{◌≡◌, ◌⊎◌, inl, inr, ⊎_elim, ℕ, ◌<◌, ◌≤◌, subst, sym, refl, ◌∙◌, arith}
-use Rattle.std.proofs.lemmas.Bool.{cases_order}
-use Rattle.disk_model.specs.Crash.{Meaning, Now, SameImages, Elapses, Leaves, Causes, Untouched}
-use Rattle.seg_base.specs.Faults.{Rose}
-use Rattle.std.specs.Prelude.{◌↔◌}
-use Rattle.disk_model.specs.Files.{Files}
+use Rattle.std.proofs.Common.{◌≡◌, ◌⊎◌, inl, inr, ⊎_elim, ℕ, ◌<◌, ◌≤◌, subst, sym, refl, ◌∙◌, arith, ◌↔◌}
+use Rattle.seg_words.proofs.Lemmas.{cases_order}
+use Rattle.disk_model.specs.Types.{Meaning, Now, SameImages, Elapses, Leaves, Causes, Untouched, Files}
+use Rattle.seg_words.specs.Types.{Rose}
 
 module _ {D : Type 0} (meaning : Meaning D) where
   -- before the first call

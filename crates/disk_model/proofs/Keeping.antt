@@ -1,9 +1,6 @@
 -- What holds of each image so far, and what each call keeps, holds at each moment.
-use Rattle.std.proofs.Common.{◌≡◌, ⊎_elim, ℕ, ◌≤◌, subst, sym, arith}
-use Rattle.std.specs.Prelude.{Result, Ok, Err, OnOk, OnErr, ◌↔◌}
-use Rattle.disk_model.specs.Files.{Files, content, put, TornFile}
-use Rattle.disk_model.specs.Crash.{Meaning, Now, SameImages, Elapses, Leaves, Always}
-use Rattle.disk_model.specs.declared.disk.File.{File}
+use Rattle.std.proofs.Common.{◌≡◌, ⊎_elim, ℕ, ◌≤◌, subst, sym, arith, Result, Ok, Err, OnOk, OnErr, ◌↔◌}
+use Rattle.disk_model.specs.Types.{Files, content, put, TornFile, Meaning, Now, SameImages, Elapses, Leaves, Always, File}
 use Rattle.disk_model.proofs.Going.{started, goes_on}
 
 module _ {D : Type 0} (meaning : Meaning D) (since : ℕ) where

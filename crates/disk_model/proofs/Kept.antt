@@ -1,21 +1,7 @@
 -- A list of changes, and one more.
-use Rattle.std.proofs.Common.{◌≡◌, ℕ, ◌+◌, ◌-◌, ◌^◌, ◌<◌, ◌≤◌, Bool, true, false, ◌&&◌, length, List, [], ◌∷◌, ◌++◌, refl, sym, ◌∙◌, ap, arith}
-use Rattle.std.specs.Prelude.{filter}
-use Rattle.std.specs.List.{list_all}
-use Rattle.std.proofs.lemmas.List.{append-nil}
-use Rattle.std.proofs.lemmas.List.Elements.{filter-append}
-use Rattle.std.proofs.lemmas.List.Folds.{list_all-append}
-use Rattle.std.proofs.lemmas.Bool.{leb-true, le-leb}
-use Rattle.std.proofs.lemmas.Bool.Decides.{nat_tests}
-use Rattle.disk_model.specs.declared.disk.File.{File}
-use Rattle.disk_model.specs.declared.disk.File.TheVariants.{Data, Log}
-use Rattle.disk_model.specs.declared.memory.Change.TheVariants.{Write}
-use Rattle.disk_model.specs.Files.{Files, written}
-use Rattle.disk_model.specs.History.{both, seen_step, seen_after, IsLeftBy, IsLeftAfter, is_by, fits, is_in_range}
-use Rattle.disk_model.specs.Crash.{CanWrite}
-use Rattle.disk_model.specs.declared.memory.DatedChange.{DatedChange}
-use Rattle.disk_model.specs.declared.memory.Memory.{Memory}
-use Rattle.disk_model.specs.Memory.{first_files, memory_files}
+use Rattle.std.proofs.Common.{◌≡◌, ℕ, ◌+◌, ◌-◌, ◌^◌, ◌<◌, ◌≤◌, Bool, true, false, ◌&&◌, length, List, [], ◌∷◌, ◌++◌, refl, sym, ◌∙◌, ap, arith, filter, append-nil, leb-true, le-leb}
+use Rattle.seg_words.proofs.Lemmas.{list_all, filter-append, list_all-append, nat_tests}
+use Rattle.disk_model.specs.Types.{File, Data, Log, Write, Files, written, both, seen_step, seen_after, IsLeftBy, IsLeftAfter, is_by, fits, is_in_range, CanWrite, DatedChange, Memory, first_files, memory_files}
 
 both_true : (a b : Bool) → (a && b) ≡ true → (a ≡ true) × (b ≡ true)
 both_true true b h = (refl, h)

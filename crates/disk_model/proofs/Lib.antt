@@ -1,3 +1,4 @@
+pub mod Lemmas
 pub mod Kept
 pub mod Overwritten
 pub mod Moments

@@ -1,17 +1,7 @@
 -- What each call of files in memory does to what a crash may leave.
-use Rattle.std.proofs.Common.{◌≡◌, ◌⊎◌, inl, inr, ⊎_elim, ℕ, ◌+◌, ◌-◌, ◌^◌, ◌<◌, ◌≤◌, List, length, sym, ◌∙◌, ap, subst, arith, rules}
-use Rattle.std.specs.Prelude.{filter, ◌↔◌, Result, Ok, Err, OnOk, OnErr, IsErr}
-use Rattle.disk_model.specs.declared.disk.File.{File}
-use Rattle.disk_model.specs.AsRead.{torn_file_same}
-use Rattle.std.proofs.lemmas.Bool.{cases_lt}
-use Rattle.disk_model.specs.declared.memory.Change.TheVariants.{Write, Broken, Sync}
-use Rattle.disk_model.specs.Crash.{Elapses, SameImages, CanWrite}
-use Rattle.disk_model.specs.Files.{Files, TornFile}
-use Rattle.disk_model.specs.History.{IsLeftBy, IsLeftAfter, is_by, IsImageAfter}
-use Rattle.disk_model.specs.Memory.{first_files, memory_files, memory_crash_at, memory_meaning, PassesOver, Adds}
-use Rattle.disk_model.specs.declared.memory.Change.{Change}
-use Rattle.disk_model.specs.declared.memory.DatedChange.{DatedChange}
-use Rattle.disk_model.specs.declared.memory.Memory.{Memory}
+use Rattle.std.proofs.Common.{◌≡◌, ◌⊎◌, inl, inr, ⊎_elim, ℕ, ◌+◌, ◌-◌, ◌^◌, ◌<◌, ◌≤◌, List, length, sym, ◌∙◌, ap, subst, arith, rules, filter, ◌↔◌, Result, Ok, Err, OnOk, OnErr, IsErr}
+use Rattle.disk_model.specs.Types.{File, torn_file_same, Write, Broken, Sync, Elapses, SameImages, CanWrite, Files, TornFile, IsLeftBy, IsLeftAfter, is_by, IsImageAfter, first_files, memory_files, memory_crash_at, memory_meaning, PassesOver, Adds, Change, DatedChange, Memory}
+use Rattle.seg_words.proofs.Lemmas.{cases_lt}
 use Rattle.disk_model.proofs.Kept.{all_by, push_later, left_push, left_pop, is_seen}
 
 abbrev pub Images : Memory → ℕ → Files → Type 0

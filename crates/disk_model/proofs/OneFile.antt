@@ -1,11 +1,6 @@
 -- A run of calls that changes one of the files alone.
-use Rattle.std.proofs.Common.{◌≡◌, ℕ, List, refl, sym, ◌∙◌, ap, subst}
-use Rattle.std.specs.Prelude.{Result, Ok, Err, OnOk, OnErr, ◌↔◌}
-use Rattle.disk_model.specs.Files.{Files, content, put, Torn, TornFile}
-use Rattle.disk_model.specs.Crash.{Meaning, Now, Elapses, Leaves}
-use Rattle.disk_model.specs.Only.{OnlyFile}
-use Rattle.disk_model.specs.declared.disk.File.{File}
-use Rattle.disk_model.specs.declared.disk.File.TheVariants.{Data, Log}
+use Rattle.std.proofs.Common.{◌≡◌, ℕ, List, refl, sym, ◌∙◌, ap, subst, Result, Ok, Err, OnOk, OnErr, ◌↔◌}
+use Rattle.disk_model.specs.Types.{Files, content, put, Torn, TornFile, Meaning, Now, Elapses, Leaves, OnlyFile, File, Data, Log}
 use Rattle.disk_model.proofs.Going.{started, goes_on, weaker, then_leaves}
 
 pub put_content : (file : File) (files : Files) → files ≡ put file (content file files) files

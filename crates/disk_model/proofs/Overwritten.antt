@@ -1,9 +1,7 @@
 -- Bytes that are written over in place.
-use Rattle.std.proofs.Common.{◌≡◌, inl, inr, ℕ, ◌+◌, ◌-◌, List, ◌++◌, length, take, drop, replicate, sym, ◌∙◌, ap, arith, length-append}
-use Rattle.std.proofs.lemmas.Bool.{cases_lt}
-use Rattle.std.proofs.lemmas.List.{take-append-le, drop-append-le, take_all, drop_all, append-nil, length-replicate, take-replicate}
-use Rattle.std.proofs.Math.Seq.{take-append-add}
-use Rattle.disk_model.specs.Files.{written}
+use Rattle.std.proofs.Common.{◌≡◌, inl, inr, ℕ, ◌+◌, ◌-◌, List, ◌++◌, length, take, drop, replicate, sym, ◌∙◌, ap, arith, length-append, take_all, append-nil}
+use Rattle.seg_words.proofs.Lemmas.{cases_lt, take-append-le, drop-append-le, drop_all, length-replicate, take-replicate, take-append-add}
+use Rattle.disk_model.specs.Types.{written}
 
 module _ (old bytes : List ℕ) (at : ℕ) where
   zeros : List ℕ

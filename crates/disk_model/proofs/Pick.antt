@@ -1,20 +1,7 @@
 -- What is picked is one of the images.
-use Rattle.std.proofs.Common.{◌≡◌, inl, ℕ, List, [], ◌∷◌, length, replicate, refl, sym, subst}
-use Rattle.std.specs.Prelude.{Result, Ok, Err, IfOk, filter}
-use Rattle.std.proofs.lemmas.List.{length-replicate}
-use Rattle.disk_model.specs.Files.{Files, content, put, TornFile}
-use Rattle.disk_model.specs.History.{seen_step, IsLeftBy, IsLeftAfter, is_by}
-use Rattle.disk_model.specs.Memory.{first_files, memory_files, memory_crash_at, IsNew}
-use Rattle.disk_model.specs.AsRead.{torn_file_same, torn_file_written}
-use Rattle.disk_model.specs.Picked.{torn_bytes, pick_step, picked, picked_files}
-use Rattle.disk_model.specs.declared.disk.File.{File}
-use Rattle.disk_model.specs.declared.disk.File.TheVariants.{Data, Log}
-use Rattle.disk_model.specs.declared.memory.Tear.{Tear}
-use Rattle.disk_model.specs.declared.memory.Tear.TheVariants.{Old, New, Zero}
-use Rattle.disk_model.specs.declared.memory.Change.{Change}
-use Rattle.disk_model.specs.declared.memory.Change.TheVariants.{Write, Broken, Sync}
-use Rattle.disk_model.specs.declared.memory.DatedChange.{DatedChange}
-use Rattle.disk_model.specs.declared.memory.Memory.{Memory}
+use Rattle.std.proofs.Common.{◌≡◌, inl, ℕ, List, [], ◌∷◌, length, replicate, refl, sym, subst, Result, Ok, Err, IfOk, filter}
+use Rattle.seg_words.proofs.Lemmas.{length-replicate}
+use Rattle.disk_model.specs.Types.{Files, content, put, TornFile, seen_step, IsLeftBy, IsLeftAfter, is_by, first_files, memory_files, memory_crash_at, IsNew, torn_file_same, torn_file_written, torn_bytes, pick_step, picked, picked_files, File, Data, Log, Tear, Old, New, Zero, Change, Write, Broken, Sync, DatedChange, Memory}
 
 put_content : (file : File) (files : Files) → put file (content file files) files ≡ files
 put_content Data files = refl

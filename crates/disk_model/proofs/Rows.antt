@@ -1,8 +1,6 @@
 -- Writes in a row are one write of all their bytes.
-use Rattle.std.proofs.Common.{◌≡◌, ℕ, ◌+◌, ◌-◌, ◌≤◌, min, List, [], ◌++◌, length, take, drop, replicate, sym, ◌∙◌, ap, arith, length-append, append_assoc}
-use Rattle.std.proofs.lemmas.List.{take-take, drop-drop, take_at, drop_at, append-nil}
-use Rattle.disk_model.specs.Files.{written, Torn}
-use Rattle.disk_model.specs.AsRead.{length-done, length-written}
+use Rattle.std.proofs.Common.{◌≡◌, ℕ, ◌+◌, ◌-◌, ◌≤◌, min, List, [], ◌++◌, length, take, drop, replicate, sym, ◌∙◌, ap, arith, length-append, append_assoc, take-take, drop-drop, take_at, drop_at, append-nil}
+use Rattle.disk_model.specs.Types.{written, Torn, length-done, length-written}
 
 -- what a write leaves behind its range, or a longer one
 pub torn_wider : (at n m : ℕ) (old new : List ℕ) → n ≤ m → Torn at n old new → Torn at m old new

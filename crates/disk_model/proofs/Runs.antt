@@ -1,11 +1,6 @@
 -- Writes of one file one after the other, and their sync; and such runs one after the other.
-use Rattle.std.proofs.Common.{◌≡◌, ℕ, List, length, refl, sym, ◌∙◌, ap, subst}
-use Rattle.std.specs.Prelude.{Result, Ok, Err, OnOk, OnErr, ◌↔◌}
-use Rattle.disk_model.specs.Files.{Files, content, put, written, Torn, TornFile}
-use Rattle.disk_model.specs.Crash.{Meaning, Now, Elapses, Leaves, Untouched}
-use Rattle.disk_model.specs.Only.{OnlyFile, IsSettled, IsPut, Settles}
-use Rattle.disk_model.specs.AsRead.{torn_written}
-use Rattle.disk_model.specs.declared.disk.File.{File}
+use Rattle.std.proofs.Common.{◌≡◌, ℕ, List, length, refl, sym, ◌∙◌, ap, subst, Result, Ok, Err, OnOk, OnErr, ◌↔◌}
+use Rattle.disk_model.specs.Types.{Files, content, put, written, Torn, TornFile, Meaning, Now, Elapses, Leaves, Untouched, OnlyFile, IsSettled, IsPut, Settles, torn_written, File}
 use Rattle.disk_model.proofs.Going.{started, weaker, then_leaves}
 use Rattle.disk_model.proofs.Moments.{on_ok}
 use Rattle.disk_model.proofs.OneFile.{So, so_started, so_write, so_sync, synced, only_weaker, only_through, then_only, put_content, content_put, put_put}

@@ -1,12 +1,6 @@
 -- What a disk that stops leaves.
-use Rattle.std.proofs.Common.{◌≡◌, ℕ, ◌+◌, ◌-◌, ◌^◌, ◌≤◌, min, sym, subst, arith}
-use Rattle.std.specs.Prelude.{◌↔◌}
-use Rattle.disk_model.specs.Files.{Files, TornFile}
-use Rattle.disk_model.specs.Crash.{Meaning, Now, SameImages, CanWrite}
-use Rattle.disk_model.specs.AsRead.{torn_file_same}
-use Rattle.disk_model.specs.Stopping.{stopping_meaning, StopsHere}
-use Rattle.disk_model.specs.declared.disk.File.{File}
-use Rattle.disk_model.specs.declared.stopping.Stopping.{Stopping}
+use Rattle.std.proofs.Common.{◌≡◌, ℕ, ◌+◌, ◌-◌, ◌^◌, ◌≤◌, min, sym, subst, arith, ◌↔◌}
+use Rattle.disk_model.specs.Types.{Files, TornFile, Meaning, Now, SameImages, CanWrite, torn_file_same, stopping_meaning, StopsHere, File, Stopping}
 
 module _ {D : Type 0} (meaning : Meaning D) (in_time : (d : D) → meaning.clock d ≤ 2 ^ 64 - 1) where
   -- now is now inside

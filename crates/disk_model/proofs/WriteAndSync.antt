@@ -1,11 +1,6 @@
 -- Writes in a row and their sync, over plain disks.
-use Rattle.std.proofs.Common.{◌≡◌, ℕ, ◌+◌, ◌≤◌, List, ◌++◌, length, sym, ◌∙◌, ap, subst, arith, length-append}
-use Rattle.std.specs.Prelude.{Result, OnOk, OnErr, ◌↔◌}
-use Rattle.disk_model.specs.Files.{Files, content, put, written, Torn, TornFile}
-use Rattle.disk_model.specs.Crash.{Meaning, Now, Elapses}
-use Rattle.disk_model.specs.Only.{IsSettled, IsPut}
-use Rattle.disk_model.specs.AsRead.{torn_same, torn_written}
-use Rattle.disk_model.specs.declared.disk.File.{File}
+use Rattle.std.proofs.Common.{◌≡◌, ℕ, ◌+◌, ◌≤◌, List, ◌++◌, length, sym, ◌∙◌, ap, subst, arith, length-append, Result, OnOk, OnErr, ◌↔◌}
+use Rattle.disk_model.specs.Types.{Files, content, put, written, Torn, TornFile, Meaning, Now, Elapses, IsSettled, IsPut, torn_same, torn_written, File}
 use Rattle.disk_model.proofs.Moments.{on_ok}
 use Rattle.disk_model.proofs.OneFile.{So, so_started, so_write, so_sync, synced, only_weaker, content_put, put_put}
 use Rattle.disk_model.proofs.Rows.{torn_wider, torn_then, written_then}

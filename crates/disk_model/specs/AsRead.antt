@@ -1,8 +1,8 @@
 -- Files in memory as they read are one of their images.
 use Rattle.std.specs.Prelude.{◌≡◌, ℕ, ◌+◌, ◌-◌, min, List, [], ◌∷◌, ◌++◌, length, take, drop, replicate, filter, Bool, true, false, refl}
-use Rattle.std.specs.List.{list_all}
-use Rattle.std.proofs.Common.{sym, ◌∙◌, ap, subst, arith, length-append, append_assoc, ◌&&◌, inl}
-use Rattle.std.proofs.lemmas.List.{take_min, take_at, drop_at, length-take, length-drop, length-replicate}
+use Rattle.seg_words.specs.Types.{list_all}
+use Rattle.std.proofs.Common.{sym, ◌∙◌, ap, subst, arith, length-append, append_assoc, ◌&&◌, inl, take_at, drop_at, length-take, length-drop}
+use Rattle.seg_words.proofs.Lemmas.{take_min, length-replicate}
 use Rattle.disk_model.specs.declared.disk.File.{File}
 use Rattle.disk_model.specs.declared.disk.File.TheVariants.{Data, Log}
 use Rattle.disk_model.specs.declared.memory.Change.{Change}

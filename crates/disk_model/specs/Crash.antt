@@ -1,6 +1,6 @@
 -- What a crash may leave at each moment.
 use Rattle.std.specs.Prelude.{◌≡◌, ◌⊎◌, ◌↔◌, ℕ, ◌+◌, ◌-◌, ◌^◌, ◌<◌, ◌≤◌, min, Result, OnOk}
-use Rattle.seg_base.specs.Faults.{Rose}
+use Rattle.seg_words.specs.Types.{Rose}
 use Rattle.disk_model.specs.declared.disk.File.{File}
 use Rattle.disk_model.specs.declared.disk.File.TheVariants.{Data, Log}
 use Rattle.disk_model.specs.Files.{Files}

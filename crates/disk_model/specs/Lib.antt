@@ -1,3 +1,4 @@
+pub mod Types
 pub mod Files
 pub mod Crash
 pub mod Only

@@ -1,6 +1,6 @@
 -- What the files in memory mean.
 use Rattle.std.specs.Prelude.{◌≡◌, ℕ, ◌+◌, ◌-◌, ◌^◌, ◌≤◌, min, List, [], ◌∷◌, ◌++◌, Bool, ◌||◌, ◌==◌}
-use Rattle.std.specs.List.{list_any}
+use Rattle.seg_words.specs.Types.{list_any}
 use Rattle.disk_model.specs.Files.{Files}
 use Rattle.disk_model.specs.Crash.{Meaning}
 use Rattle.disk_model.specs.History.{both, seen_step, IsImageAt}

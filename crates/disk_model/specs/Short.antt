@@ -1,8 +1,7 @@
 -- No file in memory, nor any that a crash leaves, is longer than 2^64 - 1 bytes.
 use Rattle.std.specs.Prelude.{◌≡◌, ℕ, ◌+◌, ◌-◌, ◌^◌, ◌≤◌, List, [], ◌∷◌, length, filter, Bool, true, false, refl}
-use Rattle.std.specs.List.{list_all}
-use Rattle.std.proofs.Common.{sym, subst, arith, ◌&&◌, inl, inr}
-use Rattle.std.proofs.lemmas.Bool.{leb-true}
+use Rattle.seg_words.specs.Types.{list_all}
+use Rattle.std.proofs.Common.{sym, subst, arith, ◌&&◌, inl, inr, leb-true}
 use Rattle.disk_model.specs.declared.disk.File.{File}
 use Rattle.disk_model.specs.declared.disk.File.TheVariants.{Data, Log}
 use Rattle.disk_model.specs.declared.memory.Change.{Change}

@@ -1,7 +1,6 @@
 // Two files in memory. They keep each call that changed something, and so can say what a crash at any moment may leave.
-ghost use Rattle.std.specs.Prelude.{◌≡◌, ◌+◌, ◌-◌, ◌^◌, ◌<◌, ◌≤◌, ◌++◌, [], ◌∷◌, length, OnOk, OnErr, IfOk};
-ghost use Rattle.std.specs.Prelude.{IsTrue, min, take, drop, replicate, ◌⊎◌, false, true};
-ghost use Rattle.std.specs.List.{list_all};
+ghost use Rattle.std.specs.Prelude.{◌≡◌, ◌+◌, ◌-◌, ◌^◌, ◌<◌, ◌≤◌, ◌++◌, [], ◌∷◌, length, OnOk, OnErr, IfOk, IsTrue, min, take, drop, replicate, ◌⊎◌, false, true};
+ghost use Rattle.seg_words.specs.Types.{list_all};
 ghost use Rattle.disk_model.specs.Files.{Files, content, put, written, AreShort};
 ghost use Rattle.disk_model.specs.History.{both, seen_step, seen_after, is_by, fits, is_in_range};
 
@@ -113,7 +112,7 @@ impl Memory {
     ghost use Rattle.disk_model.specs.Memory.{memory_files, first_files, IsNew, IsDurable, PassesOver, Stays, Adds, fails_at};
     ghost use Rattle.disk_model.specs.declared.memory.Change.TheVariants.{Write, Broken, Sync};
     ghost use Rattle.disk_model.specs.Crash.{CanWrite, Rises};
-    ghost use Rattle.seg_base.specs.Faults.{HasCause};
+    ghost use Rattle.seg_words.specs.Types.{HasCause};
 
     /// Both files with these bytes, all of them on the disk. The calls with these numbers, from 0, fail.
     pub fn new(

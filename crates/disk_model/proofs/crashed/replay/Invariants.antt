@@ -1,8 +1,5 @@
-use Rattle.std.proofs.Common.{◌≡◌, drop}
-use Rattle.std.specs.Prelude.{filter}
-use Rattle.disk_model.specs.History.{is_by}
-use Rattle.disk_model.specs.Contents.{files_of}
-use Rattle.disk_model.specs.Picked.{picked}
+use Rattle.std.proofs.Common.{◌≡◌, drop, filter}
+use Rattle.disk_model.specs.Types.{is_by, files_of, picked}
 use Rattle.disk_model.proofs.crashed.replay.Given as goal
 
 -- what the rest makes of the files so far is what all make of the first

@@ -1,7 +1,5 @@
 use Rattle.std.proofs.Common.{◌+◌, sym, ◌∙◌, ap, refl}
-use Rattle.disk_model.specs.declared.memory.DatedChange.{DatedChange}
-use Rattle.disk_model.specs.Files.{Files}
-use Rattle.disk_model.specs.Memory.{first_files, memory_files}
+use Rattle.disk_model.specs.Types.{DatedChange, Files, first_files, memory_files}
 use Rattle.disk_model.proofs.Kept.{so_far_later_push, in_range_push, seen_later, is_seen}
 use Rattle.disk_model.proofs.memory.Memory.keep_mark.Goals as goal
 

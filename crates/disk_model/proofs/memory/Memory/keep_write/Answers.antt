@@ -1,5 +1,5 @@
 use Rattle.std.proofs.Common.{ap}
-use Rattle.disk_model.specs.Files.{Files}
+use Rattle.disk_model.specs.Types.{Files}
 use Rattle.disk_model.proofs.Kept.{write_so_far, write_in_range, write_data, write_log}
 use Rattle.disk_model.proofs.memory.Memory.keep_write.Goals as goal
 

@@ -1,4 +1,4 @@
-use Rattle.disk_model.specs.declared.memory.Change.TheVariants.{Sync}
+use Rattle.disk_model.specs.Types.{Sync}
 use Rattle.disk_model.proofs.Moments.{on_ok, on_err, same_over, now_added}
 use Rattle.disk_model.proofs.memory.MemoryDisk.sync.Goals as goal
 

@@ -1,21 +1,15 @@
 -- The two writes of a group, over plain disks.
-use Rattle.std.proofs.Common.{◌≡◌, inl, inr, ⊎_elim, ℕ, ◌+◌, ◌-◌, ◌^◌, ◌<◌, ◌≤◌, List, [], ◌∷◌, ◌++◌, length, refl, sym, ap, subst, arith, length-append}
-use Rattle.std.specs.Int.{w32, to_be_bytes}
-use Rattle.seg_base.specs.declared.shape.Shape.{Shape}
-use Rattle.disk_model.specs.Files.{written, Torn, AreShort}
-use Rattle.disk_model.specs.Crash.{Meaning, Leaves}
-use Rattle.disk_model.specs.Only.{OnlyFile, IsPut}
+use Rattle.std.proofs.Common.{◌≡◌, inl, inr, ⊎_elim, ℕ, ◌+◌, ◌-◌, ◌^◌, ◌<◌, ◌≤◌, List, [], ◌∷◌, ◌++◌, length, refl, sym, ap, subst, arith, length-append, w32}
+use Rattle.seg_words.specs.Types.{to_be_bytes, Shape, FIRST_GATE}
+use Rattle.disk_model.specs.Types.{written, Torn, AreShort, Meaning, Leaves, OnlyFile, IsPut}
 use Rattle.disk_model.specs.declared.disk.File.TheVariants.{Log}
-use Rattle.disk_model.proofs.OneFile.{only_weaker}
-use Rattle.log_frame.specs.Head.{head}
-use Rattle.log_frame.specs.Frame.{frames, IsPayload}
-use Rattle.log_frame.specs.Spelling.{Stands, IsLog, WithOrWithout}
-use Rattle.log_frame.specs.Ready.{IsReady, Settles, Leads}
+use Rattle.disk_model.proofs.Lemmas.{only_weaker}
+use Rattle.log_frame.specs.Types.{head, frames, IsPayload, Stands, IsLog, WithOrWithout, IsReady, Settles, Leads, GROUP_HEAD_SIZE}
 use Rattle.log_frame.proofs.Groups.{IsStaged, stands_torn, staged, torn_gate, written_gate, payloads_push, length-frames_push, length-head}
 use Rattle.log_frame.proofs.Steps.{stays, then_put, then_run, only_run}
 
 -- the closed gate lies within the bytes
-pub log_longer : (shape : Shape) (groups : List (List ℕ)) (bytes : List ℕ) → IsLog shape groups bytes → 63 + length (frames groups) < length bytes
+pub log_longer : (shape : Shape) (groups : List (List ℕ)) (bytes : List ℕ) → IsLog shape groups bytes → FIRST_GATE + length (frames groups) < length bytes
 log_longer shape groups bytes log =
     let stands = log.stands in
     omega (arith, ap length stands.begins.is, length-append (head shape ++ frames groups ++ stands.gate ∷ []) stands.begins.rest, length-append (head shape ++ frames groups) (stands.gate ∷ []), length-append (head shape) (frames groups), length-head shape)
@@ -55,7 +49,7 @@ module _ {D : Type 0} (meaning : Meaning D) (d0 : D) (shape : Shape) (groups : L
         then_run meaning d0 d1 d2 (IsStaged (head shape) groups payload) (Torn end 1 mid) (WithOrWithout shape groups payload) stage so_far leaves
         (λ b torn. ⊎_elim (without b) (λ stands. inr (with_it fits b stands)) (torn_gate (head shape) groups payload mid stage.holds end b at_gate torn))
 
-    pub added : (next : ℕ) → next ≡ end + 5 + length payload → IsPut meaning d1 d2 Log (written (meaning.files d1).log_bytes end (1 ∷ [])) → Leads meaning d0 d2 shape (groups ++ payload ∷ []) next
+    pub added : (next : ℕ) → next ≡ end + GROUP_HEAD_SIZE + length payload → IsPut meaning d1 d2 Log (written (meaning.files d1).log_bytes end (1 ∷ [])) → Leads meaning d0 d2 shape (groups ++ payload ∷ []) next
     added next place is_put =
         let mid = (meaning.files d1).log_bytes in
         let Whole = IsLog shape (groups ++ payload ∷ []) in
@@ -67,7 +61,7 @@ module _ {D : Type 0} (meaning : Meaning D) (d0 : D) (shape : Shape) (groups : L
         }
 
     -- the new place is a number
-    pub room_after : IsPut meaning d1 d2 Log (written (meaning.files d1).log_bytes end (1 ∷ [])) → AreShort (meaning.files d2) → end + 5 + length payload ≤ 2 ^ 64 - 1
+    pub room_after : IsPut meaning d1 d2 Log (written (meaning.files d1).log_bytes end (1 ∷ [])) → AreShort (meaning.files d2) → end + GROUP_HEAD_SIZE + length payload ≤ 2 ^ 64 - 1
     room_after is_put short =
-        let all = added (end + 5 + length payload) refl is_put in
+        let all = added (end + GROUP_HEAD_SIZE + length payload) refl is_put in
         omega (arith, short.log_short, log_longer shape (groups ++ payload ∷ []) (meaning.files d2).log_bytes all.ready.log, all.ready.at_end)

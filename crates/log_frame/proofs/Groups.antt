@@ -1,14 +1,9 @@
 -- What a write makes of a log's bytes.
-use Rattle.std.proofs.Common.{◌≡◌, ◌≢◌, ◌⊎◌, inl, inr, ℕ, ◌+◌, ◌-◌, ◌<◌, ◌≤◌, min, List, [], ◌∷◌, ◌++◌, replicate, length, take, drop, get_or, refl, sym, ◌∙◌, ap, arith}
-use Rattle.std.specs.Int.{w32, to_be_bytes}
-use Rattle.std.specs.List.{AllByRecursion}
-use Rattle.std.proofs.lemmas.List.{append_assoc, append-nil, length-append, take_at, drop_at, drop_more, take-append-drop, take-take, flat_map_more}
-use Rattle.std.proofs.lemmas.Bool.{cases_eq}
-use Rattle.seg_base.specs.declared.shape.Shape.{Shape}
-use Rattle.disk_model.specs.Files.{written, Torn}
-use Rattle.log_frame.specs.Head.{head}
-use Rattle.log_frame.specs.Frame.{frame, frames, IsPayload}
-use Rattle.log_frame.specs.Spelling.{Begins, Stands}
+use Rattle.std.proofs.Common.{◌≡◌, ◌≢◌, ◌⊎◌, inl, inr, ℕ, ◌+◌, ◌-◌, ◌<◌, ◌≤◌, min, List, [], ◌∷◌, ◌++◌, replicate, length, take, drop, get_or, refl, sym, ◌∙◌, ap, arith, w32, append_assoc, append-nil, length-append, take_at, drop_at, take-append-drop, take-take}
+use Rattle.seg_words.specs.Types.{to_be_bytes, AllByRecursion, Shape, FIRST_GATE}
+use Rattle.seg_words.proofs.Lemmas.{drop_more, flat_map_more, cases_eq}
+use Rattle.disk_model.specs.Types.{written, Torn}
+use Rattle.log_frame.specs.Types.{head, frame, frames, IsPayload, Begins, Stands, GROUP_HEAD_SIZE}
 
 -- the group stands whole behind a closed gate
 pub record IsStaged (first : List ℕ) (groups : List (List ℕ)) (payload bytes : List ℕ) : Type 0 where
@@ -121,11 +116,11 @@ pub payloads_push : (groups : List (List ℕ)) (payload : List ℕ) → AllByRec
 payloads_push [] payload all fits = (fits, tt)
 payloads_push (g ∷ groups) payload all fits = (all.0, payloads_push groups payload all.1 fits)
 
-pub length-frames_push : (groups : List (List ℕ)) (payload : List ℕ) → length (frames (groups ++ payload ∷ [])) ≡ length (frames groups) + 5 + length payload
+pub length-frames_push : (groups : List (List ℕ)) (payload : List ℕ) → length (frames (groups ++ payload ∷ [])) ≡ length (frames groups) + GROUP_HEAD_SIZE + length payload
 length-frames_push groups payload =
     let more : frames (groups ++ payload ∷ []) ≡ frames groups ++ frame payload = sym (flat_map_more frame [] groups payload) in
-    let sized : length (frame payload) ≡ 5 + length payload = omega (arith, length-append (to_be_bytes w32 (length payload)) payload) in
+    let sized : length (frame payload) ≡ GROUP_HEAD_SIZE + length payload = omega (arith, length-append (to_be_bytes w32 (length payload)) payload) in
     omega (arith, ap length more, length-append (frames groups) (frame payload), sized)
 
-pub length-head : (shape : Shape) → length (head shape) ≡ 63
+pub length-head : (shape : Shape) → length (head shape) ≡ FIRST_GATE
 length-head shape = refl

@@ -1,21 +1,8 @@
 -- What is spelled is found.
-use Rattle.std.proofs.Common.{◌≡◌, ◌≢◌, ℕ, ◌+◌, ◌≤◌, Bool, true, false, ◌&&◌, List, [], ◌∷◌, ◌++◌, length, take, drop, get_or, refl, sym, ◌∙◌, ap, subst, arith, length-append}
-use Rattle.std.specs.Prelude.{Option, Some, None, Result, Ok, Err}
-use Rattle.std.specs.Int.{w32, to_be_bytes, from_be_bytes}
-use Rattle.std.specs.List.{AllByRecursion}
-use Rattle.std.proofs.lemmas.List.{append_assoc, take_at, drop_at}
-use Rattle.std.proofs.Math.Seq.{get_or-append_seam}
-use Rattle.std.proofs.lemmas.Nat.{from_be_bytes-to_be_bytes_4}
-use Rattle.std.proofs.lemmas.Grind.{flat_map-append}
-use Rattle.std.proofs.lemmas.Bool.{leb-true}
-use Rattle.std.proofs.lemmas.Bool.Decides.{nat_tests}
-use Rattle.seg_base.specs.Fields.{number_in}
-use Rattle.seg_base.specs.Places.{is_shape}
-use Rattle.seg_base.specs.declared.shape.Shape.{Shape}
-use Rattle.log_frame.specs.Head.{head, is_formatted, shape_in, shape_found, wrong_number, unless}
-use Rattle.log_frame.specs.Frame.{frame, frames, IsPayload, size_found, Walks}
-use Rattle.log_frame.specs.Spelling.{IsLog}
-use Rattle.log_frame.specs.declared.fault.WrongByte.{WrongByte}
+use Rattle.std.proofs.Common.{◌≡◌, ◌≢◌, ℕ, ◌+◌, ◌≤◌, Bool, true, false, ◌&&◌, List, [], ◌∷◌, ◌++◌, length, take, drop, get_or, refl, sym, ◌∙◌, ap, subst, arith, length-append, Option, Some, None, Result, Ok, Err, w32, append_assoc, take_at, drop_at, leb-true}
+use Rattle.seg_words.specs.Types.{to_be_bytes, from_be_bytes, AllByRecursion, number_in, is_shape, Shape, FIRST_GATE, LEAST_BLOCKS, LEAST_EXTENT_BLOCKS, LEAST_UNDO_BLOCKS, LOG_HEAD_SIZE, MOST_BLOCKS, MOST_EXTENT_BLOCKS, MOST_UNDO_BLOCKS, OWN_BLOCKS}
+use Rattle.seg_words.proofs.Lemmas.{get_or-append_seam, from_be_bytes-to_be_bytes_4, flat_map-append, nat_tests}
+use Rattle.log_frame.specs.Types.{head, is_formatted, shape_in, shape_found, wrong_number, unless, frame, frames, IsPayload, size_found, Walks, IsLog, WrongByte, GROUP_HEAD_SIZE}
 
 -- behind some bytes stands a gate
 module _ (front : List ℕ) (gate : ℕ) (rest bytes : List ℕ) (is : bytes ≡ front ++ gate ∷ rest) where
@@ -53,7 +40,7 @@ module _ (front payload rest bytes : List ℕ) (fits : IsPayload payload) (some 
   unfolding tail
   sized = ap (λ (l : List ℕ). from_be_bytes w32 (take 4 l)) (behind_gate front 1 tail bytes gated ∙ append_assoc (to_be_bytes w32 (length payload)) payload rest) ∙ from_be_bytes-to_be_bytes_4 (length payload) fits.fits
 
-  long : length bytes ≡ length front + 5 + length payload + length rest
+  long : length bytes ≡ length front + GROUP_HEAD_SIZE + length payload + length rest
   long = omega (arith, ap length is, length-append front (frame payload ++ rest), length-append (frame payload) rest, length-append (to_be_bytes w32 (length payload)) payload)
 
   pub size_is : size_found bytes (length front) ≡ Ok (Some (length payload))
@@ -64,11 +51,11 @@ module _ (front payload rest bytes : List ℕ) (fits : IsPayload payload) (some 
       let more = fits.some in
       grind (arith, nat_tests)
 
-  pub payload_is : take (length payload) (drop (length front + 5) bytes) ≡ payload
+  pub payload_is : take (length payload) (drop (length front + GROUP_HEAD_SIZE) bytes) ≡ payload
   payload_is =
       let four = to_be_bytes w32 (length payload) in
       let split : bytes ≡ (front ++ 1 ∷ four) ++ (payload ++ rest) = is ∙ simp append_assoc in
-      ap (take (length payload)) (ap (drop (length front + 5)) split ∙ drop_at (front ++ 1 ∷ four) (payload ++ rest) (length front + 5) (length-append front (1 ∷ four)))
+      ap (take (length payload)) (ap (drop (length front + GROUP_HEAD_SIZE)) split ∙ drop_at (front ++ 1 ∷ four) (payload ++ rest) (length front + GROUP_HEAD_SIZE) (length-append front (1 ∷ four)))
       ∙ take_at payload rest (length payload) refl
 
 -- groups behind some bytes, and a closed gate
@@ -82,13 +69,13 @@ walks_there (g ∷ groups) front gate rest bytes at place shut all is =
     let split : bytes ≡ front ++ (frame g ++ behind) = is ∙ ap (λ (l : List ℕ). front ++ l) (append_assoc (frame g) (frames groups) (gate ∷ rest)) in
     let some : 1 ≤ length behind = omega (arith, length-append (frames groups) (gate ∷ rest)) in
     let further : bytes ≡ (front ++ frame g) ++ behind = split ∙ sym (append_assoc front (frame g) behind) in
-    let size : length (frame g) ≡ 5 + length g = omega (arith, length-append (to_be_bytes w32 (length g)) g) in
-    let next : at + 5 + length g ≡ length (front ++ frame g) = omega (arith, place, size, length-append front (frame g)) in
-    let later = walks_there groups (front ++ frame g) gate rest bytes (at + 5 + length g) next shut all.1 further in
-    let end : at + 5 + length g + length (frames groups) ≡ at + length (frame g ++ frames groups) = omega (arith, size, length-append (frame g) (frames groups)) in (
+    let size : length (frame g) ≡ GROUP_HEAD_SIZE + length g = omega (arith, length-append (to_be_bytes w32 (length g)) g) in
+    let next : at + GROUP_HEAD_SIZE + length g ≡ length (front ++ frame g) = omega (arith, place, size, length-append front (frame g)) in
+    let later = walks_there groups (front ++ frame g) gate rest bytes (at + GROUP_HEAD_SIZE + length g) next shut all.1 further in
+    let end : at + GROUP_HEAD_SIZE + length g + length (frames groups) ≡ at + length (frame g ++ frames groups) = omega (arith, size, length-append (frame g) (frames groups)) in (
       ap (size_found bytes) place ∙ size_is front g behind bytes all.0 some split,
-      ap (λ (n : ℕ). take (length g) (drop (n + 5) bytes)) place ∙ payload_is front g behind bytes all.0 some split,
-      subst (λ (n : ℕ). Walks bytes (at + 5 + length g) groups (Ok n)) end later,
+      ap (λ (n : ℕ). take (length g) (drop (n + GROUP_HEAD_SIZE) bytes)) place ∙ payload_is front g behind bytes all.0 some split,
+      subst (λ (n : ℕ). Walks bytes (at + GROUP_HEAD_SIZE + length g) groups (Ok n)) end later,
     )
 
 -- a walk ends in one way
@@ -103,16 +90,16 @@ walks_once (g ∷ gs) [] bytes at r (Ok n) first second = absurd (cc (first.0, s
 walks_once (g ∷ gs) [] bytes at r (Err f) first second = absurd (cc (first.0, second))
 walks_once (g ∷ gs) (h ∷ hs) bytes at r s first second =
     let size : length g ≡ length h = cc (first.0, second.0) in
-    let same : g ≡ h = sym first.1 ∙ ap (λ (n : ℕ). take n (drop (at + 5) bytes)) size ∙ second.1 in
-    let later = walks_once gs hs bytes (at + 5 + length g) r s first.2 (subst (λ (n : ℕ). Walks bytes (at + 5 + n) hs s) (sym size) second.2) in
+    let same : g ≡ h = sym first.1 ∙ ap (λ (n : ℕ). take n (drop (at + GROUP_HEAD_SIZE) bytes)) size ∙ second.1 in
+    let later = walks_once gs hs bytes (at + GROUP_HEAD_SIZE + length g) r s first.2 (subst (λ (n : ℕ). Walks bytes (at + GROUP_HEAD_SIZE + n) hs s) (sym size) second.2) in
     (ap (λ (l : List ℕ). l ∷ gs) same ∙ ap (λ (l : List (List ℕ)). h ∷ l) later.0, later.1)
 
 -- a shape within the limits
 pub record HasLimits (shape : Shape) : Type 0 where
-  pub blocks : (64 ≤ shape.blocks) × (shape.blocks ≤ 16384)
-  pub extent : (8 ≤ shape.extent) × (shape.extent ≤ 64)
-  pub undo : (2 ≤ shape.undo) × (shape.undo ≤ 1024)
-  pub sum : 37 + shape.undo + shape.extent ≤ shape.blocks
+  pub blocks : (LEAST_BLOCKS ≤ shape.blocks) × (shape.blocks ≤ MOST_BLOCKS)
+  pub extent : (LEAST_EXTENT_BLOCKS ≤ shape.extent) × (shape.extent ≤ MOST_EXTENT_BLOCKS)
+  pub undo : (LEAST_UNDO_BLOCKS ≤ shape.undo) × (shape.undo ≤ MOST_UNDO_BLOCKS)
+  pub sum : OWN_BLOCKS + shape.undo + shape.extent ≤ shape.blocks
 
 both_true : (a b : Bool) → (a && b) ≡ true → (a ≡ true) × (b ≡ true)
 both_true true b h = (refl, h)
@@ -147,13 +134,13 @@ module _ (shape : Shape) (groups : List (List ℕ)) (bytes : List ℕ) (log : Is
   pub formatted : is_formatted bytes ≡ true
   formatted =
       let first : get_or bytes 0 0 ≡ 1 = ap (λ (l : List ℕ). get_or l 0 0) spelled in
-      let long : 64 ≤ length bytes = omega (arith, ap length spelled, length-append (head shape) (frames groups ++ log.stands.gate ∷ log.stands.begins.rest), length-append (frames groups) (log.stands.gate ∷ log.stands.begins.rest)) in
+      let long : LOG_HEAD_SIZE ≤ length bytes = omega (arith, ap length spelled, length-append (head shape) (frames groups ++ log.stands.gate ∷ log.stands.begins.rest), length-append (frames groups) (log.stands.gate ∷ log.stands.begins.rest)) in
       grind (arith, nat_tests)
 
   -- what the head's 64 bytes say
   module _ (x : ℕ) (more : List ℕ) (behind : frames groups ++ log.stands.gate ∷ log.stands.begins.rest ≡ x ∷ more) where
-    front_is : take 64 bytes ≡ head shape ++ x ∷ []
-    front_is = ap (take 64) (spelled ∙ ap (λ (l : List ℕ). head shape ++ l) behind)
+    front_is : take LOG_HEAD_SIZE bytes ≡ head shape ++ x ∷ []
+    front_is = ap (take LOG_HEAD_SIZE) (spelled ∙ ap (λ (l : List ℕ). head shape ++ l) behind)
 
     shape_is : shape_in (head shape ++ x ∷ []) ≡ shape
     shape_is =
@@ -164,7 +151,7 @@ module _ (shape : Shape) (groups : List (List ℕ)) (bytes : List ℕ) (log : Is
         ∙ ap (λ (n : ℕ). made shape.blocks n (again shape.undo)) (from_be_bytes-to_be_bytes_4 shape.extent (omega (arith, h.extent.1)))
         ∙ ap (made shape.blocks shape.extent) (from_be_bytes-to_be_bytes_4 shape.undo (omega (arith, h.undo.1)))
 
-    pub found : shape_found (take 64 bytes) ≡ Ok shape
+    pub found : shape_found (take LOG_HEAD_SIZE bytes) ≡ Ok shape
     found =
         ap shape_found front_is
         ∙ ap (λ (s : Shape). unless (wrong_number (head shape ++ x ∷ []) s) (Ok s)) shape_is
@@ -174,11 +161,11 @@ module _ (shape : Shape) (groups : List (List ℕ)) (bytes : List ℕ) (log : Is
   nonempty [] x more = (x, more, refl)
   nonempty (g ∷ gs) x more = (1, to_be_bytes w32 (length g) ++ g ++ frames gs ++ x ∷ more, refl)
 
-  pub head_is : shape_found (take 64 bytes) ≡ Ok shape
+  pub head_is : shape_found (take LOG_HEAD_SIZE bytes) ≡ Ok shape
   head_is = let there = nonempty groups log.stands.gate log.stands.begins.rest in found there.0 there.1 there.2
 
 -- from any gate of a log on
-pub walks_from : (shape : Shape) (before after : List (List ℕ)) (bytes : List ℕ) (at : ℕ) → IsLog shape (before ++ after) bytes → at ≡ 63 + length (frames before) → Walks bytes at after (Ok (63 + length (frames (before ++ after))))
+pub walks_from : (shape : Shape) (before after : List (List ℕ)) (bytes : List ℕ) (at : ℕ) → IsLog shape (before ++ after) bytes → at ≡ FIRST_GATE + length (frames before) → Walks bytes at after (Ok (FIRST_GATE + length (frames (before ++ after))))
 walks_from shape before after bytes at log place =
     let gate = log.stands.gate in
     let rest = log.stands.begins.rest in
@@ -187,7 +174,7 @@ walks_from shape before after bytes at log place =
     log.stands.begins.is ∙ ap (λ (l : List ℕ). head shape ++ l ++ gate ∷ [] ++ rest) both ∙ simp append_assoc in
     let front : at ≡ length (head shape ++ frames before) = omega (arith, place, length-append (head shape) (frames before)) in
     let payloads = payloads_after before after log.payloads in
-    let end : at + length (frames after) ≡ 63 + length (frames (before ++ after)) = omega (arith, place, ap length both, length-append (frames before) (frames after)) in
+    let end : at + length (frames after) ≡ FIRST_GATE + length (frames (before ++ after)) = omega (arith, place, ap length both, length-append (frames before) (frames after)) in
     subst (λ (n : ℕ). Walks bytes at after (Ok n)) end (walks_there after (head shape ++ frames before) gate rest bytes at front log.stands.shut payloads split)
   where
     payloads_after : (before after : List (List ℕ)) → AllByRecursion IsPayload (before ++ after) → AllByRecursion IsPayload after

@@ -1,18 +1,11 @@
 -- The writes of a head, over bytes and over plain disks.
 use Rattle.std.proofs.Common.{◌≡◌, ◌≢◌, inl, inr, ℕ, ◌-◌, ◌<◌, ◌≤◌, true, false, List, [], ◌∷◌, ◌++◌, replicate, length, drop, get_or, refl, sym, ◌∙◌, ap, subst, arith}
-use Rattle.std.proofs.lemmas.List.{drop_more}
-use Rattle.std.proofs.lemmas.Bool.{cases_eq}
-use Rattle.std.proofs.lemmas.Bool.Decides.{nat_tests}
-use Rattle.seg_base.specs.declared.shape.Shape.{Shape}
-use Rattle.seg_base.specs.Places.{is_shape}
-use Rattle.disk_model.specs.Files.{written, Torn}
-use Rattle.disk_model.specs.Crash.{Meaning, Leaves}
-use Rattle.disk_model.specs.Only.{OnlyFile, IsPut}
+use Rattle.seg_words.proofs.Lemmas.{drop_more, cases_eq, nat_tests}
+use Rattle.seg_words.specs.Types.{Shape, is_shape, FIRST_GATE, LOG_HEAD_SIZE}
+use Rattle.disk_model.specs.Types.{written, Torn, Meaning, Leaves, OnlyFile, IsPut}
 use Rattle.disk_model.specs.declared.disk.File.TheVariants.{Log}
-use Rattle.disk_model.proofs.OneFile.{only_weaker}
-use Rattle.log_frame.specs.Head.{head_body, is_formatted}
-use Rattle.log_frame.specs.Spelling.{Begins, IsLog, IsClosed, EmptyOrNone}
-use Rattle.log_frame.specs.Ready.{Settles, Leads}
+use Rattle.disk_model.proofs.Lemmas.{only_weaker}
+use Rattle.log_frame.specs.Types.{head_body, is_formatted, Begins, IsLog, IsClosed, EmptyOrNone, Settles, Leads}
 use Rattle.log_frame.proofs.Groups.{begins_torn, begins_written}
 use Rattle.log_frame.proofs.Steps.{then_put, then_run, only_run}
 
@@ -76,13 +69,13 @@ module _ (shape : Shape) (old : List ℕ) (within : is_shape shape ≡ true) (st
       none = omega arith
 
 module _ {D : Type 0} (meaning : Meaning D) (shape : Shape) (within : is_shape shape ≡ true) (d0 d1 d2 : D) (closed : Settles meaning d0 d1 IsClosed) where
-  pub body_run : Leaves meaning d0 d1 (OnlyFile meaning d0 Log (λ (b : List ℕ). is_formatted b ≡ false)) → Leaves meaning d1 d2 (OnlyFile meaning d1 Log (Torn 1 63 (meaning.files d1).log_bytes))
+  pub body_run : Leaves meaning d0 d1 (OnlyFile meaning d0 Log (λ (b : List ℕ). is_formatted b ≡ false)) → Leaves meaning d1 d2 (OnlyFile meaning d1 Log (Torn 1 (LOG_HEAD_SIZE - 1) (meaning.files d1).log_bytes))
       → Leaves meaning d0 d2 (OnlyFile meaning d0 Log (EmptyOrNone shape))
   body_run so_far leaves =
       let None_yet : List ℕ → Type 0 = λ (b : List ℕ). is_formatted b ≡ false in
       let mid = (meaning.files d1).log_bytes in
-      then_run meaning d0 d1 d2 IsClosed (Torn 1 63 mid) (EmptyOrNone shape) closed (only_run meaning d0 d1 None_yet (EmptyOrNone shape) so_far (λ b is. inl is)) leaves
-      (λ b torn. inl (closed_not b (closed_torn mid b 1 63 (omega arith) closed.holds torn)))
+      then_run meaning d0 d1 d2 IsClosed (Torn 1 (LOG_HEAD_SIZE - 1) mid) (EmptyOrNone shape) closed (only_run meaning d0 d1 None_yet (EmptyOrNone shape) so_far (λ b is. inl is)) leaves
+      (λ b torn. inl (closed_not b (closed_torn mid b 1 (LOG_HEAD_SIZE - 1) (omega arith) closed.holds torn)))
 
   pub body_put : IsPut meaning d1 d2 Log (written (meaning.files d1).log_bytes 1 (head_body shape ++ 0 ∷ [])) → Settles meaning d0 d2 (IsHeaded shape)
   body_put is_put = then_put meaning d0 d1 d2 IsClosed (IsHeaded shape) (written (meaning.files d1).log_bytes 1 (head_body shape ++ 0 ∷ [])) closed is_put (headed shape (meaning.files d1).log_bytes closed.holds)
@@ -93,7 +86,7 @@ module _ {D : Type 0} (meaning : Meaning D) (shape : Shape) (within : is_shape s
       let mid = (meaning.files d2).log_bytes in
       then_run meaning d0 d2 d3 (IsHeaded shape) (Torn 0 1 mid) (EmptyOrNone shape) stage so_far leaves (λ b torn. torn_gate shape mid within stage.holds b torn)
 
-  pub gate_put : IsPut meaning d2 d3 Log (written (meaning.files d2).log_bytes 0 (1 ∷ [])) → Leads meaning d0 d3 shape [] 63
+  pub gate_put : IsPut meaning d2 d3 Log (written (meaning.files d2).log_bytes 0 (1 ∷ [])) → Leads meaning d0 d3 shape [] FIRST_GATE
   gate_put is_put =
       let mid = (meaning.files d2).log_bytes in
       let Empty = IsLog shape [] in

@@ -1,13 +1,8 @@
 -- What was read of a file, in pieces.
-use Rattle.std.proofs.Common.{◌≡◌, ◌⊎◌, inl, inr, ℕ, ◌+◌, ◌-◌, ◌<◌, ◌≤◌, min, Bool, true, false, List, [], ◌∷◌, ◌++◌, length, take, drop, replicate, refl, sym, ◌∙◌, ap, subst, arith}
-use Rattle.std.specs.Prelude.{Some, None, Option, Result, Ok, Err, IfSome, ◌^◌}
-use Rattle.std.proofs.lemmas.Bool.{cases_lt}
-use Rattle.std.proofs.lemmas.List.{take-take, take_min, take_all, drop-take, drop-drop, drop_all, length-take, length-drop}
-use Rattle.log_frame.specs.Frame.{size_found}
-use Rattle.log_frame.specs.Found.{wrong, IsSizeFound, AnswersInMemory}
-use Rattle.log_frame.specs.Reading.{Reading, window, payload_read, Covers, IsReached, IsFront, Passes, IsAdvance}
-use Rattle.log_frame.specs.declared.fault.FrameFault.{FrameFault}
-use Rattle.log_frame.specs.declared.fault.FrameFault.TheVariants.{DeviceFault, NotOpen, BadFrame, NoMemory}
+use Rattle.std.proofs.Common.{◌≡◌, ◌⊎◌, inl, inr, ℕ, ◌+◌, ◌-◌, ◌<◌, ◌≤◌, min, Bool, true, false, List, [], ◌∷◌, ◌++◌, length, take, drop, replicate, refl, sym, ◌∙◌, ap, subst, arith, Some, None, Option, Result, Ok, Err, IfSome, ◌^◌, take-take, take_all, drop-drop, length-take, length-drop}
+use Rattle.seg_words.proofs.Lemmas.{cases_lt, take_min, drop_all}
+use Rattle.std.proofs.lemmas.List.{drop-take}
+use Rattle.log_frame.specs.Types.{size_found, wrong, IsSizeFound, AnswersInMemory, Reading, window, payload_read, Covers, IsReached, IsFront, Passes, IsAdvance, FrameFault, DeviceFault, NotOpen, BadFrame, NoMemory, GROUP_HEAD_SIZE}
 use Rattle.log_frame.proofs.Spelled.{open_inside}
 
 -- a part of what was read is that part of the file
@@ -21,11 +16,11 @@ part_read file r k n covers le within =
     ∙ ap (take n) (drop-drop m r.start file ∙ ap (λ (i : ℕ). drop i file) (omega arith))
 
 -- the first bytes of the window
-pub front_read : (file : List ℕ) (r : Reading) (count : ℕ) → IsReached file 5 r → count ≡ min 5 (length (window r)) → (count ≡ min 5 (length file - r.next)) × (take count (window r) ≡ take count (drop r.next file))
+pub front_read : (file : List ℕ) (r : Reading) (count : ℕ) → IsReached file GROUP_HEAD_SIZE r → count ≡ min GROUP_HEAD_SIZE (length (window r)) → (count ≡ min GROUP_HEAD_SIZE (length file - r.next)) × (take count (window r) ≡ take count (drop r.next file))
 front_read file r count reached is =
     let long = length-drop (r.next - r.start) r.read in
     let whole : length r.read ≤ length file - r.start = omega (arith, ap length reached.covers.stands, length-take (length r.read) (drop r.start file), length-drop r.start file) in
-    let same : count ≡ min 5 (length file - r.next) = omega (arith, reached.there, reached.covers.inside) in
+    let same : count ≡ min GROUP_HEAD_SIZE (length file - r.next) = omega (arith, reached.there, reached.covers.inside) in
     (same, fits (cases_lt (length r.read) (r.next - r.start + count)))
   where
     fits : ((length r.read < r.next - r.start + count) ⊎ (r.next - r.start + count ≤ length r.read)) → take count (window r) ≡ take count (drop r.next file)
@@ -35,16 +30,16 @@ front_read file r count reached is =
         ap (λ (n : ℕ). take n (window r)) none ∙ ap (λ (n : ℕ). take n (drop r.next file)) (sym none)
     fits (inr within) = part_read file r r.next count reached.covers reached.covers.inside within
 
-pub front_copied : (file : List ℕ) (r : Reading) (ahead copied : List ℕ) (count : ℕ) → IsReached file 5 r → ahead ≡ window r → count ≡ min (length ahead) 5 → copied ≡ take count ahead → IsFront file r.next (copied ++ drop count (replicate 5 0))
+pub front_copied : (file : List ℕ) (r : Reading) (ahead copied : List ℕ) (count : ℕ) → IsReached file GROUP_HEAD_SIZE r → ahead ≡ window r → count ≡ min (length ahead) GROUP_HEAD_SIZE → copied ≡ take count ahead → IsFront file r.next (copied ++ drop count (replicate GROUP_HEAD_SIZE 0))
 front_copied file r ahead copied count reached is counted same =
     let found = front_read file r count reached (omega (arith, counted, ap length is)) in
-    ap (λ (l : List ℕ). l ++ drop count (replicate 5 0)) (same ∙ ap (take count) is ∙ found.1) ∙ ap (λ (n : ℕ). take n (drop r.next file) ++ drop n (replicate 5 0)) found.0
+    ap (λ (l : List ℕ). l ++ drop count (replicate GROUP_HEAD_SIZE 0)) (same ∙ ap (take count) is ∙ found.1) ∙ ap (λ (n : ℕ). take n (drop r.next file) ++ drop n (replicate GROUP_HEAD_SIZE 0)) found.0
 
-pub one_passed_on : (file : List ℕ) (old new : Reading) (size : ℕ) → IsReached file (5 + size) old → size_found file old.next ≡ Ok (Some size) → new.len ≡ old.len → new.start ≡ old.start → new.read ≡ old.read → new.next ≡ old.next + 5 + size → new.size ≡ size → Passes file old.next new
+pub one_passed_on : (file : List ℕ) (old new : Reading) (size : ℕ) → IsReached file (GROUP_HEAD_SIZE + size) old → size_found file old.next ≡ Ok (Some size) → new.len ≡ old.len → new.start ≡ old.start → new.read ≡ old.read → new.next ≡ old.next + GROUP_HEAD_SIZE + size → new.size ≡ size → Passes file old.next new
 one_passed_on file old new size reached found len start read next sized =
     let inside = (open_inside file old.next size found).1 in
     let long = length-drop (old.next - old.start) old.read in
-    let there : old.next + 5 - old.start + size ≤ length old.read = omega (arith, reached.there, inside, long, reached.covers.inside) in
+    let there : old.next + GROUP_HEAD_SIZE - old.start + size ≤ length old.read = omega (arith, reached.there, inside, long, reached.covers.inside) in
     record {
       covers = record {
         len = len ∙ reached.covers.len;
@@ -53,8 +48,8 @@ one_passed_on file old new size reached found len start read next sized =
       };
       found = found ∙ ap (λ (n : ℕ). Ok (Some n)) (sym sized);
       payload = ap (λ (n : ℕ). take n (drop (new.next - n - new.start) new.read)) sized ∙ ap (λ (l : List ℕ). take size (drop (new.next - size - new.start) l)) read ∙ ap (λ (n : ℕ). take size (drop n old.read)) (omega (arith, next, start))
-          ∙ part_read file old (old.next + 5) size reached.covers (omega (arith, reached.covers.inside)) there ∙ ap (λ (n : ℕ). take n (drop (old.next + 5) file)) (sym sized);
-      next = next ∙ ap (λ (n : ℕ). old.next + 5 + n) (sym sized);
+          ∙ part_read file old (old.next + GROUP_HEAD_SIZE) size reached.covers (omega (arith, reached.covers.inside)) there ∙ ap (λ (n : ℕ). take n (drop (old.next + GROUP_HEAD_SIZE) file)) (sym sized);
+      next = next ∙ ap (λ (n : ℕ). old.next + GROUP_HEAD_SIZE + n) (sym sized);
     }
 
 -- what stops it
@@ -83,5 +78,5 @@ pass_on old file gate here new same at passes = subst (λ (l : List ℕ). Passes
 pub still_covers : (old file : List ℕ) (r : Reading) → file ≡ old → Covers old r → Covers file r
 still_covers old file r same covers = subst (λ (l : List ℕ). Covers l r) (sym same) covers
 
-pub room : (gate : ℕ) (found : Option ℕ) (size : ℕ) → found ≡ Some size → IfSome found (λ n. gate + 5 + n < 2 ^ 64) → gate + 5 + size < 2 ^ 64
-room gate found size is within = subst (λ (o : Option ℕ). IfSome o (λ n. gate + 5 + n < 2 ^ 64)) is within
+pub room : (gate : ℕ) (found : Option ℕ) (size : ℕ) → found ≡ Some size → IfSome found (λ n. gate + GROUP_HEAD_SIZE + n < 2 ^ 64) → gate + GROUP_HEAD_SIZE + size < 2 ^ 64
+room gate found size is within = subst (λ (o : Option ℕ). IfSome o (λ n. gate + GROUP_HEAD_SIZE + n < 2 ^ 64)) is within

@@ -1,12 +1,9 @@
 -- Runs that change the log alone.
 use Rattle.std.proofs.Common.{◌≡◌, ℕ, List, refl, sym, ◌∙◌, ap, subst}
-use Rattle.disk_model.specs.Files.{Files}
-use Rattle.disk_model.specs.Crash.{Meaning, Leaves}
-use Rattle.disk_model.specs.Only.{OnlyFile, IsSettled, IsPut}
+use Rattle.disk_model.specs.Types.{Files, Meaning, Leaves, OnlyFile, IsSettled, IsPut}
 use Rattle.disk_model.specs.declared.disk.File.TheVariants.{Log}
-use Rattle.disk_model.proofs.Going.{weaker}
-use Rattle.disk_model.proofs.OneFile.{only_weaker, only_through, then_only}
-use Rattle.log_frame.specs.Ready.{Settles}
+use Rattle.disk_model.proofs.Lemmas.{weaker, only_weaker, only_through, then_only}
+use Rattle.log_frame.specs.Types.{Settles}
 
 module _ {D : Type 0} (meaning : Meaning D) where
   -- before any call

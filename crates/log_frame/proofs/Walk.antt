@@ -1,12 +1,6 @@
 -- A walk over groups, one group further.
-use Rattle.std.proofs.Common.{◌≡◌, ℕ, ◌+◌, ◌<◌, List, [], ◌∷◌, ◌++◌, length, take, drop, refl, sym, ◌∙◌, ap, subst, arith}
-use Rattle.std.specs.Prelude.{Some, None, Result, Ok, Err}
-use Rattle.std.proofs.lemmas.List.{append_assoc, length-take, length-drop}
-use Rattle.log_frame.specs.Frame.{size_found, Walks}
-use Rattle.log_frame.specs.Found.{wrong, Walked, IsSizeFound, IsEndFound}
-use Rattle.log_frame.specs.declared.fault.WrongByte.{WrongByte}
-use Rattle.log_frame.specs.declared.fault.FrameFault.{FrameFault}
-use Rattle.log_frame.specs.declared.fault.FrameFault.TheVariants.{DeviceFault, NotOpen, BadFrame, NoMemory}
+use Rattle.std.proofs.Common.{◌≡◌, ℕ, ◌+◌, ◌<◌, List, [], ◌∷◌, ◌++◌, length, take, drop, refl, sym, ◌∙◌, ap, subst, arith, Some, None, Result, Ok, Err, append_assoc, length-take, length-drop}
+use Rattle.log_frame.specs.Types.{size_found, Walks, wrong, Walked, IsSizeFound, IsEndFound, WrongByte, FrameFault, DeviceFault, NotOpen, BadFrame, NoMemory, GROUP_HEAD_SIZE}
 
 -- some groups were passed on the way from a gate to another
 pub record Passed (bytes : List ℕ) (from at : ℕ) : Type 0 where
@@ -16,17 +10,17 @@ pub record Passed (bytes : List ℕ) (from at : ℕ) : Type 0 where
 pub none_passed : (bytes : List ℕ) (from : ℕ) → Passed bytes from from
 none_passed bytes from = record { groups = []; on = λ rest result walks. walks }
 
-pub one_passed : (bytes : List ℕ) (from at size : ℕ) → at + 5 + size < length bytes → size_found bytes at ≡ Ok (Some size) → Passed bytes from at → Passed bytes from (at + 5 + size)
+pub one_passed : (bytes : List ℕ) (from at size : ℕ) → at + GROUP_HEAD_SIZE + size < length bytes → size_found bytes at ≡ Ok (Some size) → Passed bytes from at → Passed bytes from (at + GROUP_HEAD_SIZE + size)
 one_passed bytes from at size within found passed =
-    let group = take size (drop (at + 5) bytes) in
-    let long : length group ≡ size = omega (arith, length-take size (drop (at + 5) bytes), length-drop (at + 5) bytes) in
+    let group = take size (drop (at + GROUP_HEAD_SIZE) bytes) in
+    let long : length group ≡ size = omega (arith, length-take size (drop (at + GROUP_HEAD_SIZE) bytes), length-drop (at + GROUP_HEAD_SIZE) bytes) in
     record {
       groups = passed.groups ++ group ∷ [];
       on = λ rest result walks.
           let here : Walks bytes at (group ∷ rest) result = (
             found ∙ ap (λ (n : ℕ). Ok (Some n)) (sym long),
-            ap (λ (n : ℕ). take n (drop (at + 5) bytes)) long,
-            subst (λ (n : ℕ). Walks bytes (at + 5 + n) rest result) (sym long) walks,
+            ap (λ (n : ℕ). take n (drop (at + GROUP_HEAD_SIZE) bytes)) long,
+            subst (λ (n : ℕ). Walks bytes (at + GROUP_HEAD_SIZE + n) rest result) (sym long) walks,
           ) in
           subst (λ (l : List (List ℕ)). Walks bytes from l result) (sym (append_assoc passed.groups (group ∷ []) rest)) (passed.on (group ∷ rest) result here);
     }

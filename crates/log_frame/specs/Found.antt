@@ -1,6 +1,7 @@
 -- What an answer says of the bytes that were read.
 use Rattle.std.specs.Prelude.{◌≡◌, ℕ, ◌+◌, true, false, List, [], ◌∷◌, length, take, Option, Some, None, Result, Ok, Err}
-use Rattle.seg_base.specs.declared.shape.Shape.{Shape}
+use Rattle.log_frame.specs.declared.log.TheConstants.{GROUP_HEAD_SIZE}
+use Rattle.seg_words.specs.Types.{Shape, LOG_HEAD_SIZE}
 use Rattle.log_frame.specs.Head.{is_formatted, shape_found}
 use Rattle.log_frame.specs.Frame.{Walks}
 use Rattle.log_frame.specs.declared.log.Group.{Group}
@@ -13,10 +14,10 @@ wrong offset seen = record { offset = offset; seen = seen }
 
 -- of an opening of the head, unless the device failed
 abbrev pub IsHeadFound : List ℕ → Result Shape FrameFault → Type 0
-IsHeadFound bytes (Ok shape) = (is_formatted bytes ≡ true) × (shape_found (take 64 bytes) ≡ Ok shape)
+IsHeadFound bytes (Ok shape) = (is_formatted bytes ≡ true) × (shape_found (take LOG_HEAD_SIZE bytes) ≡ Ok shape)
 IsHeadFound bytes (Err DeviceFault) = Unit {0}
 IsHeadFound bytes (Err NotOpen) = is_formatted bytes ≡ false
-IsHeadFound bytes (Err (BadFrame offset seen)) = (is_formatted bytes ≡ true) × (shape_found (take 64 bytes) ≡ Err (wrong offset seen))
+IsHeadFound bytes (Err (BadFrame offset seen)) = (is_formatted bytes ≡ true) × (shape_found (take LOG_HEAD_SIZE bytes) ≡ Err (wrong offset seen))
 IsHeadFound bytes (Err NoMemory) = ⊥
 
 -- of a look at the head's gate, unless the device failed
@@ -83,4 +84,4 @@ AnswersInMemory (Err NoMemory) P = Unit {0}
 -- the first of these groups, and none where there is none
 abbrev pub IsFirst : List (List ℕ) → ℕ → Option Group → Type 0
 IsFirst [] at group = group ≡ None
-IsFirst (payload ∷ groups) at group = group ≡ Some (record { payload = payload; next = at + 5 + length payload })
+IsFirst (payload ∷ groups) at group = group ≡ Some (record { payload = payload; next = at + GROUP_HEAD_SIZE + length payload })

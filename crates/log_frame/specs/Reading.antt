@@ -1,5 +1,6 @@
 -- Groups that are read one after the other, from pieces of the file.
 use Rattle.std.specs.Prelude.{◌≡◌, ℕ, ◌+◌, ◌-◌, ◌≤◌, min, Bool, true, false, List, ◌++◌, length, take, drop, replicate, Some, None, Result, Ok, Err}
+use Rattle.log_frame.specs.declared.log.TheConstants.{GROUP_HEAD_SIZE}
 use Rattle.log_frame.specs.Head.{is_formatted}
 use Rattle.log_frame.specs.Frame.{size_found}
 use Rattle.log_frame.specs.Found.{wrong}
@@ -32,16 +33,16 @@ pub record IsReached (file : List ℕ) (need : ℕ) (r : Reading) : Type 0 where
   pub covers : Covers file r
   pub there : min need (length file - r.next) ≤ length (window r)
 
--- the first five bytes at a gate, zeros behind the file's end
+-- the first bytes at a gate, as many as a group has before its payload, zeros behind the file's end
 abbrev pub IsFront : List ℕ → ℕ → List ℕ → Type 0
-IsFront file at front = front ≡ take (min 5 (length file - at)) (drop at file) ++ drop (min 5 (length file - at)) (replicate 5 0)
+IsFront file at front = front ≡ take (min GROUP_HEAD_SIZE (length file - at)) (drop at file) ++ drop (min GROUP_HEAD_SIZE (length file - at)) (replicate GROUP_HEAD_SIZE 0)
 
 -- one group further
 pub record Passes (file : List ℕ) (gate : ℕ) (r : Reading) : Type 0 where
   pub covers : Covers file r
   pub found : size_found file gate ≡ Ok (Some r.size)
-  pub payload : payload_read r ≡ take r.size (drop (gate + 5) file)
-  pub next : r.next ≡ gate + 5 + r.size
+  pub payload : payload_read r ≡ take r.size (drop (gate + GROUP_HEAD_SIZE) file)
+  pub next : r.next ≡ gate + GROUP_HEAD_SIZE + r.size
 
 -- what going on over a group answers, unless the device failed or memory is wanting
 abbrev pub IsAdvance : List ℕ → ℕ → Reading → Result Bool FrameFault → Type 0

@@ -1,9 +1,7 @@
 -- A log on a disk.
 use Rattle.std.specs.Prelude.{◌≡◌, ℕ, ◌+◌, List, length}
-use Rattle.seg_base.specs.declared.shape.Shape.{Shape}
-use Rattle.disk_model.specs.Files.{Files}
-use Rattle.disk_model.specs.Crash.{Meaning, Now}
-use Rattle.disk_model.specs.Only.{IsSettled, OnlyFile}
+use Rattle.seg_words.specs.Types.{Shape, FIRST_GATE}
+use Rattle.disk_model.specs.Types.{Files, Meaning, Now, IsSettled, OnlyFile}
 use Rattle.disk_model.specs.declared.disk.File.TheVariants.{Log}
 use Rattle.log_frame.specs.Frame.{frames}
 use Rattle.log_frame.specs.Spelling.{IsLog}
@@ -12,7 +10,7 @@ use Rattle.log_frame.specs.Spelling.{IsLog}
 pub record IsReady {D : Type 0} (meaning : Meaning D) (disk : D) (shape : Shape) (groups : List (List ℕ)) (end : ℕ) : Type 0 where
   pub settled : IsSettled meaning disk Log
   pub log : IsLog shape groups (meaning.files disk).log_bytes
-  pub at_end : 63 + length (frames groups) ≡ end
+  pub at_end : FIRST_GATE + length (frames groups) ≡ end
 
 -- A call that changed the log alone left a log with Q, all of it on the disk.
 pub record Settles {D : Type 0} (meaning : Meaning D) (old new : D) (Q : List ℕ → Type 0) : Type 0 where

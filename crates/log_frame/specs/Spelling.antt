@@ -1,8 +1,6 @@
 -- The bytes of a log are its head and its groups, and then a closed gate. What follows that is no part of the log.
 use Rattle.std.specs.Prelude.{◌≡◌, ◌≢◌, ◌⊎◌, ℕ, List, [], ◌∷◌, ◌++◌, drop, true, false}
-use Rattle.std.specs.List.{AllByRecursion}
-use Rattle.seg_base.specs.declared.shape.Shape.{Shape}
-use Rattle.seg_base.specs.Places.{is_shape}
+use Rattle.seg_words.specs.Types.{AllByRecursion, Shape, is_shape}
 use Rattle.log_frame.specs.Head.{head, is_formatted}
 use Rattle.log_frame.specs.Frame.{frames, IsPayload}
 

@@ -10,7 +10,9 @@ mod spelling;
 mod tests;
 
 pub use fault::{FrameFault, WrongByte};
-pub use head::{HEAD_NAME, make_head, read_shape};
-pub use log::{Group, LogFile, open};
+pub use head::{
+    BLOCKS_AT, EXTENT_AT, HEAD_NAME, HEAD_ZEROS, UNDO_AT, ZEROS_AT, make_head, read_shape,
+};
+pub use log::{GROUP_HEAD_SIZE, Group, LogFile, open};
 pub use reader::GroupReader;
 pub use spelling::a_log_has_one_spelling;

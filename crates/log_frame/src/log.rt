@@ -1,8 +1,7 @@
 // Groups behind gates.
 ghost use Rattle.std.specs.Prelude.{◌≡◌, ◌≢◌, ◌↔◌, ◌+◌, ◌-◌, ◌≤◌, ◌<◌, ◌^◌, ◌++◌, [], ◌∷◌, List, ℕ, length, take, drop, slice_index, OnOk, OnErr, IfOk, IfErr, IfSome, IsErr, IsErrOf};
-ghost use Rattle.seg_base.specs.declared.shape.Shape.{Shape};
-ghost use Rattle.disk_model.specs.Crash.{Leaves, Causes, Untouched};
-ghost use Rattle.disk_model.specs.Only.{OnlyFile, IsSettled};
+ghost use Rattle.seg_words.specs.Types.{Shape};
+ghost use Rattle.disk_model.specs.Types.{Leaves, Causes, Untouched, OnlyFile, IsSettled};
 ghost use Rattle.disk_model.specs.declared.disk.File.TheVariants.{Log};
 ghost use Rattle.log_frame.specs.Frame.{frames, IsPayload, size_found, group_found};
 ghost use Rattle.log_frame.specs.Found.{IsSizeFound, IsGroupFound, IsOpen, IsEndFound, IsOpening, Answers, AnswersInMemory, IsFirst};
@@ -12,9 +11,12 @@ ghost use Rattle.log_frame.specs.Ready.{IsReady, Leads};
 
 use crate::FrameFault;
 use disk_model::{Disk, File, write_and_sync, write_framed_and_sync};
-use seg_base::Text;
+use seg_base::{FIRST_GATE, LOG_HEAD_SIZE, Text};
 use std::alloc::Global;
 use std::marker::Model;
+
+/// Bytes of a group's gate and of its payload's length, in front of the payload.
+pub const GROUP_HEAD_SIZE: usize = 5;
 
 /// A group of a log: what it holds, and where the next gate stands.
 #[derive(Debug, Drop)]
@@ -40,9 +42,13 @@ impl Model for LogFile {
 }
 
 // The length of the payload behind a gate, in a log of this length, by the five bytes that were read there.
-pub(crate) fn size_in(front: &[u8; 5], at: u64, len: u64) -> Result<Option<u32>, FrameFault>
+pub(crate) fn size_in(
+    front: &[u8; GROUP_HEAD_SIZE],
+    at: u64,
+    len: u64,
+) -> Result<Option<u32>, FrameFault>
     ensures found { (file : List ℕ) → len ≡ length file → IsFront file at front.now → IsSizeFound (size_found file at) result }
-    ensures within { IfOk result (λ o. IfSome o (λ size. at + 5 + size < len)) }
+    ensures within { IfOk result (λ o. IfSome o (λ size. at + GROUP_HEAD_SIZE + size < len)) }
     ensures here { IsErrOf result FrameFault.DeviceFault → ⊥ }
 {
     if len <= at {
@@ -57,7 +63,7 @@ pub(crate) fn size_in(front: &[u8; 5], at: u64, len: u64) -> Result<Option<u32>,
     }
     let size = u32::from_be_bytes([a, b, c, d]);
     let left = len - at;
-    if left < 5 {
+    if left < GROUP_HEAD_SIZE as u64 {
         return Err(FrameFault::BadFrame {
             offset: len,
             seen: 0,
@@ -69,7 +75,7 @@ pub(crate) fn size_in(front: &[u8; 5], at: u64, len: u64) -> Result<Option<u32>,
             seen: 0,
         });
     }
-    if left <= 5 + u64::from(size) {
+    if left <= GROUP_HEAD_SIZE as u64 + u64::from(size) {
         return Err(FrameFault::BadFrame {
             offset: len,
             seen: 0,
@@ -82,11 +88,11 @@ pub(crate) fn size_in(front: &[u8; 5], at: u64, len: u64) -> Result<Option<u32>,
 #[tactic(auto, using(disk_model::proofs::Going::untouched_call))]
 fn size_at<D: Disk>(disk: &mut D, at: u64, len: u64) -> Result<Option<u32>, FrameFault>
     ensures found { D.meaning.told disk.old → len ≡ length (D.meaning.files disk.old).log_bytes → IsSizeFound (size_found (D.meaning.files disk.old).log_bytes at) result }
-    ensures within { IfOk result (λ o. IfSome o (λ size. at + 5 + size < len)) }
+    ensures within { IfOk result (λ o. IfSome o (λ size. at + GROUP_HEAD_SIZE + size < len)) }
     ensures cause { Causes D.meaning disk.old disk.new (IsErrOf result FrameFault.DeviceFault) }
     ensures untouched { Untouched D.meaning disk.old disk.new }
 {
-    let mut front = [0u8; 5];
+    let mut front = [0u8; GROUP_HEAD_SIZE];
     let Ok(_) = disk.read(File::Log, at, &mut front) else {
         return Err(FrameFault::DeviceFault);
     };
@@ -97,7 +103,7 @@ fn size_at<D: Disk>(disk: &mut D, at: u64, len: u64) -> Result<Option<u32>, Fram
 #[tactic(auto, using(disk_model::proofs::Going::untouched_then, disk_model::proofs::Going::untouched_call))]
 fn read_group_at<D: Disk>(alloc: Global, disk: &mut D, at: u64) -> Result<Option<Group>, FrameFault>
     ensures found { D.meaning.told disk.old → IsGroupFound (group_found (D.meaning.files disk.old).log_bytes at) result }
-    ensures next { IfOk result (λ o. IfSome o (λ group. group.next ≡ at + 5 + length group.payload)) }
+    ensures next { IfOk result (λ o. IfSome o (λ group. group.next ≡ at + GROUP_HEAD_SIZE + length group.payload)) }
     ensures cause { Causes D.meaning disk.old disk.new (IsErrOf result FrameFault.DeviceFault) }
     ensures untouched { Untouched D.meaning disk.old disk.new }
 {
@@ -112,7 +118,7 @@ fn read_group_at<D: Disk>(alloc: Global, disk: &mut D, at: u64) -> Result<Option
     let Ok(mut bytes) = vec![in alloc; 0u8; size as usize] else {
         return Err(FrameFault::NoMemory);
     };
-    let start = at + 5;
+    let start = at + GROUP_HEAD_SIZE as u64;
     let Ok(count) = disk.read(File::Log, start, &mut bytes) else {
         return Err(FrameFault::DeviceFault);
     };
@@ -138,7 +144,7 @@ pub(crate) fn expect_open<D: Disk>(disk: &mut D, len: u64) -> Result<(), FrameFa
     let Ok(_) = disk.read(File::Log, 0, &mut gate) else {
         return Err(FrameFault::DeviceFault);
     };
-    if len < 64 || gate[0] != 1 {
+    if len < LOG_HEAD_SIZE as u64 || gate[0] != 1 {
         return Err(FrameFault::NotOpen);
     }
     Ok(())
@@ -153,7 +159,7 @@ fn end_from<D: Disk>(disk: &mut D, from: u64, len: u64) -> Result<u64, FrameFaul
     let mut at = from;
     'groups: loop {
         match size_at(disk, at, len) {
-            Ok(Some(size)) => at = at + 5 + u64::from(size),
+            Ok(Some(size)) => at = at + GROUP_HEAD_SIZE as u64 + u64::from(size),
             Ok(None) => return Ok(at),
             Err(fault) => return Err(fault),
         }
@@ -186,7 +192,7 @@ fn walk<D: Disk>(disk: &mut D, from: u64) -> Result<LogFile, FrameFault>
 pub fn open<D: Disk>(disk: &mut D, from: u64) -> Result<LogFile, FrameFault>
     ensures found { D.meaning.told disk.old → IsOpening (D.meaning.files disk.old).log_bytes from result }
     ensures whole { (shape : Shape) (before after : List (List ℕ)) → IsSettled D.meaning disk.old Log
-        → IsLog shape (before ++ after) (D.meaning.files disk.old).log_bytes → from ≡ 63 + length (frames before)
+        → IsLog shape (before ++ after) (D.meaning.files disk.old).log_bytes → from ≡ FIRST_GATE + length (frames before)
         → Answers result (λ end. IsReady D.meaning disk.new shape (before ++ after) end) }
     ensures cause { Causes D.meaning disk.old disk.new (IsErrOf result FrameFault.DeviceFault) }
     ensures untouched { Untouched D.meaning disk.old disk.new }
@@ -236,9 +242,9 @@ impl LogFile {
     ) -> Result<Option<Group>, FrameFault>
         ensures found { D.meaning.told disk.old → IsGroupFound (group_found (D.meaning.files disk.old).log_bytes at) result }
         ensures whole { (shape : Shape) (before after : List (List ℕ)) → D.meaning.told disk.old
-            → IsLog shape (before ++ after) (D.meaning.files disk.old).log_bytes → at ≡ 63 + length (frames before)
+            → IsLog shape (before ++ after) (D.meaning.files disk.old).log_bytes → at ≡ FIRST_GATE + length (frames before)
             → AnswersInMemory result (IsFirst after at) }
-        ensures next { IfOk result (λ o. IfSome o (λ group. group.next ≡ at + 5 + length group.payload)) }
+        ensures next { IfOk result (λ o. IfSome o (λ group. group.next ≡ at + GROUP_HEAD_SIZE + length group.payload)) }
         ensures cause { Causes D.meaning disk.old disk.new (IsErrOf result FrameFault.DeviceFault) }
         ensures untouched { Untouched D.meaning disk.old disk.new }
     {

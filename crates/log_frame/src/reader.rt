@@ -1,11 +1,11 @@
 // Groups that are read one after the other, from pieces of the file.
 ghost use Rattle.std.specs.Prelude.{◌≡◌, ◌⊎◌, ◌+◌, ◌-◌, ◌≤◌, ◌<◌, ◌^◌, min, ℕ, List, [], length, take, drop, OnOk, OnErr, IfOk, IfErr, IfSome, Some, Ok, true, IsErr, IsErrOf};
-ghost use Rattle.disk_model.specs.Crash.{Causes, Untouched};
+ghost use Rattle.disk_model.specs.Types.{Causes, Untouched};
 ghost use Rattle.log_frame.specs.Frame.{size_found};
 ghost use Rattle.log_frame.specs.Found.{IsSizeFound, AnswersInMemory};
 ghost use Rattle.log_frame.specs.Reading.{Passes, Covers, IsReached, IsBegun, IsFront, IsAdvance, payload_read, window};
 
-use crate::log::{expect_open, size_in};
+use crate::log::{GROUP_HEAD_SIZE, expect_open, size_in};
 use crate::{FrameFault, LogFile};
 use disk_model::{Disk, File};
 use std::alloc::Global;
@@ -122,21 +122,21 @@ impl GroupReader {
         &self.bytes[passed.min(self.bytes.len())..]
     }
 
-    // The first five of them, zeros where there are fewer.
-    fn front(&self) -> [u8; 5]
-        ensures { (file : List ℕ) → IsReached file 5 self.now → IsFront file self.now.next result }
+    // The first of them, as many as a group has before its payload, and zeros where there are fewer.
+    fn front(&self) -> [u8; GROUP_HEAD_SIZE]
+        ensures { (file : List ℕ) → IsReached file GROUP_HEAD_SIZE self.now → IsFront file self.now.next result }
     {
-        let mut front = [0; 5];
+        let mut front = [0; GROUP_HEAD_SIZE];
         let ahead = self.ahead();
-        let count = ahead.len().min(5);
+        let count = ahead.len().min(GROUP_HEAD_SIZE);
         front[..count].copy_from_slice(&ahead[..count]);
         front
     }
 
     // The length of the payload behind the next gate, whose front was read.
     fn size_ahead(&self) -> Result<Option<u32>, FrameFault>
-        ensures found { (file : List ℕ) → IsReached file 5 self.now → IsSizeFound (size_found file self.now.next) result }
-        ensures within { IfOk result (λ o. IfSome o (λ size. self.now.next + 5 + size < 2 ^ 64)) }
+        ensures found { (file : List ℕ) → IsReached file GROUP_HEAD_SIZE self.now → IsSizeFound (size_found file self.now.next) result }
+        ensures within { IfOk result (λ o. IfSome o (λ size. self.now.next + GROUP_HEAD_SIZE + size < 2 ^ 64)) }
         ensures here { IsErrOf result FrameFault.DeviceFault → ⊥ }
     {
         size_in(&self.front(), self.next, self.len)
@@ -144,11 +144,11 @@ impl GroupReader {
 
     // Goes on over the group at the next gate, which was read.
     fn pass(&mut self, size: u32)
-        requires { self.old.next + 5 + size < 2 ^ 64 }
-        ensures next { self.new.next ≡ self.old.next + 5 + size }
-        ensures passes { (file : List ℕ) → IsReached file (5 + size) self.old → size_found file self.old.next ≡ Ok (Some size) → Passes file self.old.next self.new }
+        requires { self.old.next + GROUP_HEAD_SIZE + size < 2 ^ 64 }
+        ensures next { self.new.next ≡ self.old.next + GROUP_HEAD_SIZE + size }
+        ensures passes { (file : List ℕ) → IsReached file (GROUP_HEAD_SIZE + size) self.old → size_found file self.old.next ≡ Ok (Some size) → Passes file self.old.next self.new }
     {
-        self.next = self.next + 5 + u64::from(size);
+        self.next = self.next + GROUP_HEAD_SIZE as u64 + u64::from(size);
         self.size = size;
     }
 
@@ -162,7 +162,7 @@ impl GroupReader {
         ensures cause { Causes D.meaning disk.old disk.new (IsErrOf result FrameFault.DeviceFault) }
         ensures untouched { Untouched D.meaning disk.old disk.new }
     {
-        match self.reach(disk, 5) {
+        match self.reach(disk, GROUP_HEAD_SIZE as u64) {
             Ok(()) => {}
             Err(fault) => return Err(fault),
         }
@@ -171,7 +171,7 @@ impl GroupReader {
             Ok(None) => return Ok(false),
             Err(fault) => return Err(fault),
         };
-        match self.reach(disk, 5 + u64::from(size)) {
+        match self.reach(disk, GROUP_HEAD_SIZE as u64 + u64::from(size)) {
             Ok(()) => {}
             Err(fault) => return Err(fault),
         }

@@ -1,6 +1,6 @@
 // A log has one spelling, both ways.
 ghost use Rattle.std.specs.Prelude.{◌≡◌, ◌+◌, ◌<◌, ◌≤◌, ℕ, List, Result, Ok, length, take, slice_index, true};
-ghost use Rattle.seg_base.specs.declared.shape.Shape.{Shape};
+ghost use Rattle.seg_words.specs.Types.{FIRST_GATE, LOG_HEAD_SIZE, Shape};
 ghost use Rattle.log_frame.specs.declared.fault.WrongByte.{WrongByte};
 ghost use Rattle.log_frame.specs.Head.{is_formatted, shape_found};
 ghost use Rattle.log_frame.specs.Frame.{frames, Walks};
@@ -10,9 +10,9 @@ ghost use Rattle.log_frame.specs.Spelling.{IsLog, SpelledFrom};
 /// closed gate are spelled so.
 pub fn a_log_has_one_spelling()
     ensures head { (shape : Shape) (groups : List (List ℕ)) (bytes : List ℕ) → IsLog shape groups bytes
-        → (is_formatted bytes ≡ true) × (shape_found (take 64 bytes) ≡ Ok shape) }
+        → (is_formatted bytes ≡ true) × (shape_found (take LOG_HEAD_SIZE bytes) ≡ Ok shape) }
     ensures found { (shape : Shape) (groups : List (List ℕ)) (bytes : List ℕ) → IsLog shape groups bytes
-        → Walks bytes 63 groups (Ok (63 + length (frames groups))) }
+        → Walks bytes FIRST_GATE groups (Ok (FIRST_GATE + length (frames groups))) }
     ensures once { (bytes : List ℕ) (at : ℕ) (first second : List (List ℕ)) (one other : Result ℕ WrongByte)
         → Walks bytes at first one → Walks bytes at second other → (first ≡ second) × (one ≡ other) }
     ensures spelled { (bytes : List ℕ) (at end : ℕ) (groups : List (List ℕ)) → ((i : ℕ) → slice_index bytes i < 256)

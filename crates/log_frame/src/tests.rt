@@ -1,7 +1,7 @@
 // The bytes of a log, what a stop leaves of it, and each refusal with its place.
 use crate::{FrameFault, LogFile, make_head, open, read_shape};
 use disk_model::{Disk, File, Memory, Stopping, Tear};
-use seg_base::Shape;
+use seg_base::{FIRST_GATE, LOG_HEAD_SIZE, Shape};
 use std::alloc::Global;
 use std::test::Fail;
 
@@ -22,21 +22,23 @@ fn formatted(alloc: Global) -> Result<Memory, Fail> {
 fn a_new_log_and_its_first_group(rt: HostRuntime) -> Result<(), Fail> {
     let alloc = rt.alloc();
     let mut disk = formatted(alloc)?;
-    let mut head = [0u8; 64];
+    let mut head = [0u8; LOG_HEAD_SIZE];
     head[..24].copy_from_slice(b"\x01ASSMSEG0\0\0\0\x40\0\0\0\x08\0\0\0\x02\0\0\0");
     assert_eq!(rt; disk.bytes(File::Log), head.as_slice());
     assert_eq!(rt; read_shape(&mut disk)?, SHAPE);
-    let mut log = open(&mut disk, 63)?;
+    let mut log = open(&mut disk, FIRST_GATE)?;
     log.append_group(&mut disk, &[7; 56])?;
     assert_eq!(rt; log.end(), 124);
     assert_eq!(rt; disk.len(File::Log), Ok(125));
     let mut bytes = [0u8; 62];
-    assert_eq!(rt; disk.read(File::Log, 63, &mut bytes), Ok(62));
+    assert_eq!(rt; disk.read(File::Log, FIRST_GATE, &mut bytes), Ok(62));
     assert_eq!(rt; &bytes[..6], [1, 0, 0, 0, 0x38, 7].as_slice());
     assert_eq!(rt; &bytes[60..], [7, 0].as_slice());
-    let log = open(&mut disk, 63)?;
+    let log = open(&mut disk, FIRST_GATE)?;
     assert_eq!(rt; log.end(), 124);
-    let group = log.read_group(alloc, &mut disk, 63)?.ok_or("no group")?;
+    let group = log
+        .read_group(alloc, &mut disk, FIRST_GATE)?
+        .ok_or("no group")?;
     assert_eq!(rt; group.payload.as_slice(), [7; 56].as_slice());
     assert_eq!(rt; group.next, 124);
     assert!(rt; log.read_group(alloc, &mut disk, 124)?.is_none());
@@ -45,8 +47,8 @@ fn a_new_log_and_its_first_group(rt: HostRuntime) -> Result<(), Fail> {
 
 // How many of the two texts a log has, first things first.
 fn texts_in(alloc: Global, disk: &mut Memory) -> Result<u8, Fail> {
-    let log = open(disk, 63)?;
-    let mut at = 63;
+    let log = open(disk, FIRST_GATE)?;
+    let mut at = FIRST_GATE;
     let mut count = 0;
     for text in [b"one".as_slice(), b"second".as_slice()] {
         match log.read_group(alloc, disk, at)? {
@@ -64,7 +66,7 @@ fn a_stop_leaves_a_group_whole_or_not_at_all(rt: HostRuntime) -> Result<(), Fail
     let alloc = rt.alloc();
     for writes in 0..9 {
         let mut memory = formatted(alloc)?;
-        let mut log = open(&mut memory, 63)?;
+        let mut log = open(&mut memory, FIRST_GATE)?;
         let mut disk = Stopping::new(memory, writes);
         let first = log.append_group(&mut disk, b"one").is_ok();
         let second = first && log.append_group(&mut disk, b"second").is_ok();
@@ -88,8 +90,8 @@ fn refusal(alloc: Global, at: u64, bytes: &[u8]) -> Result<Option<FrameFault>, F
     if let Err(fault) = read_shape(&mut disk) {
         return Ok(Some(fault));
     }
-    match open(&mut disk, 63) {
-        Ok(log) => match log.read_group(alloc, &mut disk, 63) {
+    match open(&mut disk, FIRST_GATE) {
+        Ok(log) => match log.read_group(alloc, &mut disk, FIRST_GATE) {
             Ok(_) => Ok(None),
             Err(fault) => Ok(Some(fault)),
         },

@@ -1,5 +1,5 @@
 use Rattle.std.proofs.Common.{◌≡◌, ◌+◌, drop}
-use Rattle.log_frame.specs.Head.{first_wrong}
+use Rattle.log_frame.specs.Types.{first_wrong}
 use Rattle.log_frame.proofs.head.first_wrong.Given as goal
 
 -- what the rest says is what all say

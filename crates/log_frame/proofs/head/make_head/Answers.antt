@@ -1,7 +1,5 @@
 use Rattle.std.proofs.Common.{ℕ, List, length, subst}
-use Rattle.disk_model.specs.Files.{written, Torn}
-use Rattle.disk_model.specs.Crash.{Leaves}
-use Rattle.disk_model.specs.Only.{IsPut, OnlyFile}
+use Rattle.disk_model.specs.Types.{written, Torn, Leaves, IsPut, OnlyFile}
 use Rattle.disk_model.specs.declared.disk.File.TheVariants.{Log}
 use Rattle.log_frame.proofs.Making.{body_run, body_put, gate_run, gate_put}
 use Rattle.log_frame.proofs.head.make_head.Goals as goal

@@ -1,9 +1,7 @@
-use Rattle.std.proofs.Common.{◌≡◌, ◌+◌, ◌<◌, ℕ, List, length, sym, ◌∙◌, ap, subst, arith}
-use Rattle.std.specs.Prelude.{Some, Ok, Err}
-use Rattle.disk_model.specs.Files.{Files}
-use Rattle.disk_model.proofs.Going.{untouched_then}
-use Rattle.log_frame.specs.Frame.{size_found}
-use Rattle.log_frame.specs.Found.{IsSizeFound}
+use Rattle.std.proofs.Common.{◌≡◌, ◌+◌, ◌<◌, ℕ, List, length, sym, ◌∙◌, ap, subst, arith, Some, Ok, Err}
+use Rattle.disk_model.specs.Types.{Files}
+use Rattle.disk_model.proofs.Lemmas.{untouched_then}
+use Rattle.log_frame.specs.Types.{size_found, IsSizeFound, GROUP_HEAD_SIZE}
 use Rattle.log_frame.proofs.Walk.{Passed, one_passed, ends, breaks_so}
 use Rattle.log_frame.proofs.log.end_from.Goals as goal
 
@@ -20,8 +18,8 @@ groups-preserved g c =
           let same = ap (λ (f : Files). f.log_bytes) (kept.untouched.files told) in
           let found = next.found (kept.untouched.told.1 told) (len ∙ ap length (sym same)) in
           let here : size_found bytes c.groups.at ≡ Ok (Some c.in-Ok-Some.size) = subst (λ (b : List ℕ). size_found b c.groups.at ≡ Ok (Some c.in-Ok-Some.size)) same (found ∙ ap Ok c.in-Ok-Some.field-0-is) in
-          let within : c.groups.at + 5 + c.in-Ok-Some.size < length bytes = omega (arith, len, rw c.in-Ok-Some.field-0-is at c.in-Ok-Some.ensures.within) in
-          subst (λ (n : ℕ). Passed bytes c.args.from (c.groups.at + 5 + n)) (sym c.from.ensures) (one_passed bytes c.args.from c.groups.at c.in-Ok-Some.size within here (kept.passed told len));
+          let within : c.groups.at + GROUP_HEAD_SIZE + c.in-Ok-Some.size < length bytes = omega (arith, len, rw c.in-Ok-Some.field-0-is at c.in-Ok-Some.ensures.within) in
+          subst (λ (n : ℕ). Passed bytes c.args.from (c.groups.at + GROUP_HEAD_SIZE + n)) (sym c.from.ensures) (one_passed bytes c.args.from c.groups.at c.in-Ok-Some.size within here (kept.passed told len));
     }
 
 pub returns-in-Ok-None-clause-found : goal.returns-in-Ok-None-clause-found

@@ -1,5 +1,5 @@
 use Rattle.std.proofs.Common.{◌≡◌, ◌-◌, ◌^◌, ◌≤◌, length}
-use Rattle.disk_model.specs.Crash.{Untouched}
+use Rattle.disk_model.specs.Types.{Untouched}
 use Rattle.log_frame.proofs.Walk.{Passed}
 use Rattle.log_frame.proofs.log.end_from.Given as goal
 

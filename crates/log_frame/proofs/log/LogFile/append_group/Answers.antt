@@ -1,7 +1,5 @@
 use Rattle.std.proofs.Common.{◌≡◌, ◌+◌, ◌++◌, ℕ, List, [], ◌∷◌, subst, arith, refl}
-use Rattle.disk_model.specs.Files.{written, Torn}
-use Rattle.disk_model.specs.Only.{IsPut, OnlyFile}
-use Rattle.disk_model.specs.Crash.{Leaves}
+use Rattle.disk_model.specs.Types.{written, Torn, IsPut, OnlyFile, Leaves}
 use Rattle.disk_model.specs.declared.disk.File.TheVariants.{Log}
 use Rattle.log_frame.proofs.Append.{room, first_run, group_staged, second_run, added, room_after}
 use Rattle.log_frame.proofs.log.LogFile.append_group.Goals as goal

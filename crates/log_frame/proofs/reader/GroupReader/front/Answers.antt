@@ -1,5 +1,5 @@
 use Rattle.std.proofs.Common.{◌≡◌, ◌++◌, ◌∷◌, [], List, ℕ, take, drop, ap, ◌∙◌, sym, arith}
-use Rattle.log_frame.specs.Reading.{window}
+use Rattle.log_frame.specs.Types.{window}
 use Rattle.log_frame.proofs.Pieces.{front_copied}
 use Rattle.log_frame.proofs.reader.GroupReader.front.Goals as goal
 

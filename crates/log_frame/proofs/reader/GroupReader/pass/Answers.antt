@@ -1,5 +1,5 @@
 use Rattle.std.proofs.Common.{refl, ap, sym, ◌∙◌, arith}
-use Rattle.log_frame.specs.Reading.{Reading}
+use Rattle.log_frame.specs.Types.{Reading}
 use Rattle.log_frame.proofs.Pieces.{one_passed_on}
 use Rattle.log_frame.proofs.reader.GroupReader.pass.Goals as goal
 

@@ -1,13 +1,8 @@
 -- The blocks of a batch, and the pages that it has for them.
-use Rattle.std.proofs.Common.{◌≡◌, ◌≢◌, ◌⊎◌, inl, inr, ℕ, zero, suc, ◌+◌, ◌*◌, ◌<◌, ◌≤◌, ◌==◌, nat_le, nat_lt, leb, Bool, true, false, not, ◌&&◌, ◌||◌, cond, List, [], ◌∷◌, length, get_or, refl, sym, ◌∙◌, ap, arith}
-use Rattle.std.specs.List.{AllByRecursion, list_all, list_any}
-use Rattle.std.proofs.lemmas.Bool.{cases_eq, leb-true, ltb-true}
-use Rattle.seg_base.specs.Places.{is_shape}
-use Rattle.seg_base.specs.declared.shape.Shape.{Shape}
-use Rattle.page_store.specs.Pages.{page_in, is_place, are_apart, is_batch}
-use Rattle.page_store.specs.Batches.{blocks_of}
-use Rattle.page_store.specs.Steps.{IsNotIn}
-use Rattle.page_store.specs.declared.page.RawPage.{RawPage}
+use Rattle.std.proofs.Common.{◌≡◌, ◌≢◌, ◌⊎◌, inl, inr, ℕ, zero, suc, ◌+◌, ◌*◌, ◌<◌, ◌≤◌, ◌==◌, nat_le, nat_lt, leb, Bool, true, false, not, ◌&&◌, ◌||◌, cond, List, [], ◌∷◌, length, get_or, refl, sym, ◌∙◌, ap, arith, leb-true, ltb-true}
+use Rattle.seg_words.specs.Types.{AllByRecursion, list_all, list_any, is_shape, Shape, BLOCK_SIZE, DOUBLE_WRITE_BLOCK, DOUBLE_WRITE_PAGES, LEAST_BLOCKS, LEAST_EXTENT_BLOCKS, LEAST_UNDO_BLOCKS, MOST_BLOCKS, MOST_EXTENT_BLOCKS, MOST_UNDO_BLOCKS, OWN_BLOCKS}
+use Rattle.seg_words.proofs.Lemmas.{cases_eq}
+use Rattle.page_store.specs.Types.{page_in, is_place, are_apart, is_batch, blocks_of, IsNotIn, RawPage, AREA_AT, AREA_END, LAST_COPY}
 use Rattle.page_store.proofs.Heads.{is_same, differs}
 
 -- by index and by recursion
@@ -27,14 +22,14 @@ both_true false b h = absurd cc
 -- a block outside the area lies before it or behind it
 pub record IsOutside (shape : Shape) (b : ℕ) : Type 0 where
   pub within : b < shape.blocks
-  pub apart : (4096 * b + 4096 ≤ 16384) ⊎ (151552 ≤ 4096 * b)
+  pub apart : (BLOCK_SIZE * b + BLOCK_SIZE ≤ AREA_AT) ⊎ (AREA_END ≤ BLOCK_SIZE * b)
 
 pub outside : (shape : Shape) (b : ℕ) → is_place shape b ≡ true → IsOutside shape b
 outside shape b is =
-    let h = both_true (nat_lt b shape.blocks) (nat_lt b 4 || nat_lt 36 b) is in
-    record { within = ltb-true b shape.blocks h.0; apart = either (nat_lt b 4) (nat_lt 36 b) h.1 (λ e. ltb-true b 4 e) (λ e. ltb-true 36 b e) }
+    let h = both_true (nat_lt b shape.blocks) (nat_lt b DOUBLE_WRITE_BLOCK || nat_lt LAST_COPY b) is in
+    record { within = ltb-true b shape.blocks h.0; apart = either (nat_lt b DOUBLE_WRITE_BLOCK) (nat_lt LAST_COPY b) h.1 (λ e. ltb-true b DOUBLE_WRITE_BLOCK e) (λ e. ltb-true LAST_COPY b e) }
   where
-    either : (x y : Bool) → (x || y) ≡ true → (x ≡ true → b < 4) → (y ≡ true → 36 < b) → (4096 * b + 4096 ≤ 16384) ⊎ (151552 ≤ 4096 * b)
+    either : (x y : Bool) → (x || y) ≡ true → (x ≡ true → b < DOUBLE_WRITE_BLOCK) → (y ≡ true → LAST_COPY < b) → (BLOCK_SIZE * b + BLOCK_SIZE ≤ AREA_AT) ⊎ (AREA_END ≤ BLOCK_SIZE * b)
     either true y h low high = inl (let lt = low refl in omega (arith, lt))
     either false y h low high = inr (let lt = high h in omega (arith, lt))
 
@@ -76,18 +71,18 @@ length-blocks (p ∷ batch) = ap suc (length-blocks batch)
 -- what the test of a batch says
 pub record IsBatch (shape : Shape) (batch : List RawPage) : Type 0 where
   pub some : 1 ≤ length batch
-  pub few : length batch ≤ 32
+  pub few : length batch ≤ DOUBLE_WRITE_PAGES
   pub places : (j : ℕ) (d : RawPage) → j < length batch → IsOutside shape (get_or batch j d).dba
   pub apart : (j k : ℕ) (d : RawPage) → j < k → k < length batch → (get_or batch j d).dba ≢ (get_or batch k d).dba
 
 pub tested : (shape : Shape) (batch : List RawPage) → is_batch shape (blocks_of batch) ≡ true → IsBatch shape batch
 tested shape batch is =
     let blocks = blocks_of batch in
-    let h1 = both_true (nat_le 1 (length blocks)) (nat_le (length blocks) 32 && (list_all (is_place shape) blocks && are_apart blocks)) is in
-    let h2 = both_true (nat_le (length blocks) 32) (list_all (is_place shape) blocks && are_apart blocks) h1.1 in
+    let h1 = both_true (nat_le 1 (length blocks)) (nat_le (length blocks) DOUBLE_WRITE_PAGES && (list_all (is_place shape) blocks && are_apart blocks)) is in
+    let h2 = both_true (nat_le (length blocks) DOUBLE_WRITE_PAGES) (list_all (is_place shape) blocks && are_apart blocks) h1.1 in
     let h3 = both_true (list_all (is_place shape) blocks) (are_apart blocks) h2.1 in
     let some = leb-true 1 (length blocks) h1.0 in
-    let few = leb-true (length blocks) 32 h2.0 in
+    let few = leb-true (length blocks) DOUBLE_WRITE_PAGES h2.0 in
     record {
       some = omega (arith, some, length-blocks batch);
       few = omega (arith, few, length-blocks batch);
@@ -125,14 +120,14 @@ page_placed b (p ∷ batch) at x all same = elim (cases_eq p.dba b) [
 ]
 
 -- the limits of a store's blocks
-pub limits : (shape : Shape) → is_shape shape ≡ true → (64 ≤ shape.blocks) × (shape.blocks ≤ 16384)
+pub limits : (shape : Shape) → is_shape shape ≡ true → (LEAST_BLOCKS ≤ shape.blocks) × (shape.blocks ≤ MOST_BLOCKS)
 limits shape is =
-    let a = leb 64 shape.blocks in
-    let b = leb shape.blocks 16384 in
-    let c = leb 8 shape.extent in
-    let d = leb shape.extent 64 in
-    let e = leb 2 shape.undo in
-    let f = leb shape.undo 1024 in
-    let g = leb (37 + shape.undo + shape.extent) shape.blocks in
+    let a = leb LEAST_BLOCKS shape.blocks in
+    let b = leb shape.blocks MOST_BLOCKS in
+    let c = leb LEAST_EXTENT_BLOCKS shape.extent in
+    let d = leb shape.extent MOST_EXTENT_BLOCKS in
+    let e = leb LEAST_UNDO_BLOCKS shape.undo in
+    let f = leb shape.undo MOST_UNDO_BLOCKS in
+    let g = leb (OWN_BLOCKS + shape.undo + shape.extent) shape.blocks in
     let h = both_true a b (both_true (a && b) c (both_true (a && b && c) d (both_true (a && b && c && d) e (both_true (a && b && c && d && e) f (both_true (a && b && c && d && e && f) g is).0).0).0).0).0 in
-    (leb-true 64 shape.blocks h.0, leb-true shape.blocks 16384 h.1)
+    (leb-true LEAST_BLOCKS shape.blocks h.0, leb-true shape.blocks MOST_BLOCKS h.1)

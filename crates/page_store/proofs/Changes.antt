@@ -1,8 +1,9 @@
 -- A file of which some parts stay as they are.
-use Rattle.std.proofs.Common.{◌≡◌, ◌⊎◌, ℕ, ◌+◌, ◌≤◌, List, [], ◌∷◌, length, take, drop, get_or, refl, sym, ◌∙◌, ap, arith}
-use Rattle.std.proofs.lemmas.List.{drop-take, drop-drop}
-use Rattle.disk_model.specs.Files.{Torn}
-use Rattle.page_store.specs.Pages.{part, block, gate}
+use Rattle.std.proofs.Common.{◌-◌, ◌≡◌, ◌⊎◌, ℕ, ◌+◌, ◌≤◌, List, [], ◌∷◌, length, take, drop, get_or, refl, sym, ◌∙◌, ap, arith, drop-drop}
+use Rattle.seg_words.specs.Types.{BLOCK_SIZE, DOUBLE_WRITE_BLOCK}
+use Rattle.std.proofs.lemmas.List.{drop-take}
+use Rattle.disk_model.specs.Types.{Torn}
+use Rattle.page_store.specs.Types.{part, block, gate, AREA_AT}
 use Rattle.page_store.proofs.Parts.{part_torn, length_torn}
 
 -- it is as long, and these parts, each by its place and length, are the same
@@ -31,12 +32,12 @@ pub stays_then : (P Q : ℕ → ℕ → Type 0) (a b c : List ℕ) → ((k n : �
 stays_then P Q a b c weaker first second = record { long = second.long ∙ first.long; same = λ k n is. second.same k n (weaker k n is) ∙ first.same k n is }
 
 -- the head of the area behind its gate
-pub behind_gate : (bytes : List ℕ) → part 16385 4095 bytes ≡ drop 1 (block 4 bytes)
-behind_gate bytes = ap (take 4095) (sym (drop-drop 1 16384 bytes)) ∙ sym (drop-take 1 4095 (drop 16384 bytes))
+pub behind_gate : (bytes : List ℕ) → part (AREA_AT + 1) (BLOCK_SIZE - 1) bytes ≡ drop 1 (block DOUBLE_WRITE_BLOCK bytes)
+behind_gate bytes = ap (take (BLOCK_SIZE - 1)) (sym (drop-drop 1 AREA_AT bytes)) ∙ sym (drop-take 1 (BLOCK_SIZE - 1) (drop AREA_AT bytes))
 
-pub gate_part : (bytes : List ℕ) → gate bytes ≡ get_or (part 16384 1 bytes) 0 0
-gate_part bytes = first (drop 16384 bytes)
+pub gate_part : (bytes : List ℕ) → gate bytes ≡ get_or (part AREA_AT 1 bytes) 0 0
+gate_part bytes = first (drop AREA_AT bytes)
   where
-    first : (l : List ℕ) → get_or (take 4096 l) 0 0 ≡ get_or (take 1 l) 0 0
+    first : (l : List ℕ) → get_or (take BLOCK_SIZE l) 0 0 ≡ get_or (take 1 l) 0 0
     first [] = refl
     first (x ∷ l) = refl

@@ -1,10 +1,7 @@
 -- The head of the area as it is written.
-use Rattle.std.proofs.Common.{◌≡◌, ℕ, zero, suc, ◌+◌, ◌*◌, ◌<◌, ◌≤◌, List, [], ◌∷◌, ◌++◌, length, take, get_or, refl, sym, ◌∙◌, ap, subst, arith}
-use Rattle.std.specs.List.{flat_map}
-use Rattle.std.proofs.lemmas.List.{append_assoc, append-nil, take_all}
-use Rattle.page_bytes.specs.Pages.{IsFront, page_of}
-use Rattle.page_store.specs.Steps.{dba_bytes}
-use Rattle.page_store.specs.declared.page.RawPage.{RawPage}
+use Rattle.std.proofs.Common.{◌≡◌, ℕ, zero, suc, ◌+◌, ◌*◌, ◌<◌, ◌≤◌, List, [], ◌∷◌, ◌++◌, length, take, get_or, refl, sym, ◌∙◌, ap, subst, arith, flat_map, append_assoc, append-nil, take_all}
+use Rattle.page_bytes.specs.Types.{IsFront, page_of}
+use Rattle.page_store.specs.Types.{dba_bytes, RawPage, NUMBERS_AT}
 
 one_taken : (batch : List RawPage) (i : ℕ) (p : RawPage) → i < length batch → p ≡ get_or batch i p → flat_map dba_bytes (take (suc i) batch) ≡ flat_map dba_bytes (take i batch) ++ dba_bytes p
 one_taken [] i p lt is = absurd (omega arith)
@@ -16,7 +13,7 @@ length_taken batch zero le = refl
 length_taken [] (suc i) le = absurd (omega arith)
 length_taken (q ∷ batch) (suc i) le = omega (arith, length_taken batch i (omega arith))
 
-pub next_place : (batch : List RawPage) (head : List ℕ) (i at : ℕ) → i ≤ length batch → IsFront head (0 ∷ length batch ∷ flat_map dba_bytes (take i batch)) at → at ≡ 2 + 4 * i
+pub next_place : (batch : List RawPage) (head : List ℕ) (i at : ℕ) → i ≤ length batch → IsFront head (0 ∷ length batch ∷ flat_map dba_bytes (take i batch)) at → at ≡ NUMBERS_AT + 4 * i
 next_place batch head i at le front = omega (arith, front.place, length_taken batch i le)
 
 pub next_front : (batch : List RawPage) (i : ℕ) (p : RawPage) (bytes head : List ℕ) (at : ℕ) → i < length batch → p ≡ get_or batch i p → bytes ≡ dba_bytes p → IsFront head ((0 ∷ length batch ∷ flat_map dba_bytes (take i batch)) ++ bytes) at

@@ -1,15 +1,10 @@
 -- An opening, over plain disks.
-use Rattle.std.proofs.Common.{◌≡◌, ◌≢◌, ℕ, ◌+◌, ◌*◌, ◌<◌, ◌≤◌, length, List, Bool, true, false, ◌&&◌, ◌==◌, sym, ◌∙◌, ap, subst, arith}
-use Rattle.std.specs.Prelude.{Option, Some, None, Ok, Err}
-use Rattle.seg_base.specs.declared.shape.Shape.{Shape}
-use Rattle.disk_model.specs.Crash.{Meaning, Leaves, Untouched}
-use Rattle.disk_model.specs.Only.{OnlyFile, IsSettled, Settles}
+use Rattle.std.proofs.Common.{◌≡◌, ◌≢◌, ℕ, ◌+◌, ◌*◌, ◌<◌, ◌≤◌, length, List, Bool, true, false, ◌&&◌, ◌==◌, sym, ◌∙◌, ap, subst, arith, Option, Some, None, Ok, Err}
+use Rattle.seg_words.specs.Types.{Shape, BLOCK_SIZE, DOUBLE_WRITE_BLOCK}
+use Rattle.disk_model.specs.Types.{Meaning, Leaves, Untouched, OnlyFile, IsSettled, Settles}
 use Rattle.disk_model.specs.declared.disk.File.TheVariants.{Data}
-use Rattle.disk_model.proofs.Runs.{settles_looked, leaves_looked, settles_then, leaves_then}
-use Rattle.page_store.specs.Pages.{part, block, gate, head_blocks, is_place, is_sound_area, needs_finish, HasPages}
-use Rattle.page_store.specs.Batches.{IsShut, IsUnfinished, Leads, IsPartRead, IsAreaFound, IsOpening, Answers}
-use Rattle.page_store.specs.declared.fault.PageFault.{PageFault}
-use Rattle.page_store.specs.declared.fault.PageFault.TheVariants.{DeviceFault, BadPage, NoMemory}
+use Rattle.disk_model.proofs.Lemmas.{settles_looked, leaves_looked, settles_then, leaves_then}
+use Rattle.page_store.specs.Types.{part, block, gate, head_blocks, is_place, is_sound_area, needs_finish, HasPages, IsShut, IsUnfinished, Leads, IsPartRead, IsAreaFound, IsOpening, Answers, PageFault, DeviceFault, BadPage, NoMemory}
 use Rattle.page_store.proofs.Heads.{is_same}
 use Rattle.page_store.proofs.Batch.{outside}
 use Rattle.page_store.proofs.Stages.{page_shut}
@@ -32,9 +27,9 @@ not_bad shape bytes NoMemory P sound is = is
 pub none_found : (shape : Shape) (bytes : List ℕ) (found : Option (List ℕ)) → found ≡ None → IsAreaFound shape bytes (Ok found) → (is_sound_area shape bytes ≡ true) × (gate bytes ≢ 1)
 none_found shape bytes found none is = subst (λ (o : Option (List ℕ)). IsAreaFound shape bytes (Ok o)) none is
 
-pub some_found : (shape : Shape) (bytes : List ℕ) (found : Option (List ℕ)) (blocks slice : List ℕ) → found ≡ Some blocks → slice ≡ blocks → IsAreaFound shape bytes (Ok found) → (is_sound_area shape bytes ≡ true) × (gate bytes ≡ 1) × (slice ≡ head_blocks (block 4 bytes))
+pub some_found : (shape : Shape) (bytes : List ℕ) (found : Option (List ℕ)) (blocks slice : List ℕ) → found ≡ Some blocks → slice ≡ blocks → IsAreaFound shape bytes (Ok found) → (is_sound_area shape bytes ≡ true) × (gate bytes ≡ 1) × (slice ≡ head_blocks (block DOUBLE_WRITE_BLOCK bytes))
 some_found shape bytes found blocks slice some same is =
-    let at : (is_sound_area shape bytes ≡ true) × (gate bytes ≡ 1) × (blocks ≡ head_blocks (block 4 bytes)) = subst (λ (o : Option (List ℕ)). IsAreaFound shape bytes (Ok o)) some is in
+    let at : (is_sound_area shape bytes ≡ true) × (gate bytes ≡ 1) × (blocks ≡ head_blocks (block DOUBLE_WRITE_BLOCK bytes)) = subst (λ (o : Option (List ℕ)). IsAreaFound shape bytes (Ok o)) some is in
     (at.0, at.1, same ∙ at.2)
 
 pub device_fault : (shape : Shape) (bytes : List ℕ) (fault : PageFault) → fault ≡ DeviceFault → IsOpening shape bytes (Err fault)
@@ -57,7 +52,7 @@ module _ {D : Type 0} (meaning : Meaning D) (shape : Shape) (pages : ℕ → Lis
   pub was_shut : gate (meaning.files d0).data_bytes ≢ 1 → Leads meaning d0 d1 shape pages
   was_shut shut = settles_lead meaning d0 d1 shape pages (settles_looked meaning Data d0 d1 (IsShut shape pages) settled look (record { has = has; shut = shut }))
 
-  module _ (blocks : List ℕ) (one : gate (meaning.files d0).data_bytes ≡ 1) (named : blocks ≡ head_blocks (block 4 (meaning.files d0).data_bytes)) where
+  module _ (blocks : List ℕ) (one : gate (meaning.files d0).data_bytes ≡ 1) (named : blocks ≡ head_blocks (block DOUBLE_WRITE_BLOCK (meaning.files d0).data_bytes)) where
     pub unfinished : Settles meaning d0 d1 Data (IsUnfinished shape pages blocks)
     unfinished = settles_looked meaning Data d0 d1 (IsUnfinished shape pages blocks) settled look (record { has = has; one = one; named = named })
 
@@ -69,12 +64,12 @@ module _ {D : Type 0} (meaning : Meaning D) (shape : Shape) (pages : ℕ → Lis
 
 -- a look at a page of a store
 module _ (shape : Shape) (pages : ℕ → List ℕ) (bytes : List ℕ) (is_shut : IsShut shape pages bytes) (dba : ℕ) (place : is_place shape dba ≡ true) where
-  pub is_page : (at : ℕ) (page : List ℕ) (whole : Bool) → at ≡ 4096 * dba → whole ≡ true → IsPartRead at bytes page whole → page ≡ pages dba
+  pub is_page : (at : ℕ) (page : List ℕ) (whole : Bool) → at ≡ BLOCK_SIZE * dba → whole ≡ true → IsPartRead at bytes page whole → page ≡ pages dba
   is_page at page whole here test is =
-      let read : (at + 4096 ≤ length bytes) × (page ≡ part at 4096 bytes) = subst (IsPartRead at bytes page) test is in
-      read.1 ∙ ap (λ (n : ℕ). part n 4096 bytes) here ∙ sym (page_shut bytes dba is_shut.shut) ∙ is_shut.has.each dba place
+      let read : (at + BLOCK_SIZE ≤ length bytes) × (page ≡ part at BLOCK_SIZE bytes) = subst (IsPartRead at bytes page) test is in
+      read.1 ∙ ap (λ (n : ℕ). part n BLOCK_SIZE bytes) here ∙ sym (page_shut bytes dba is_shut.shut) ∙ is_shut.has.each dba place
 
-  pub is_there : (at : ℕ) (page : List ℕ) (whole : Bool) → at ≡ 4096 * dba → whole ≡ false → IsPartRead at bytes page whole → ⊥
+  pub is_there : (at : ℕ) (page : List ℕ) (whole : Bool) → at ≡ BLOCK_SIZE * dba → whole ≡ false → IsPartRead at bytes page whole → ⊥
   is_there at page whole here test is =
-      let short : length bytes < at + 4096 = subst (IsPartRead at bytes page) test is in
+      let short : length bytes < at + BLOCK_SIZE = subst (IsPartRead at bytes page) test is in
       omega (arith, here, short, (outside shape dba place).within, is_shut.has.long)

@@ -1,35 +1,33 @@
 -- Parts of a file: as they are read, and under writes.
-use Rattle.std.proofs.Common.{◌≡◌, ◌⊎◌, inl, inr, ⊎_elim, ℕ, ◌+◌, ◌-◌, ◌≤◌, min, nat_eq, Bool, true, false, List, [], ◌++◌, replicate, length, take, drop, refl, sym, ◌∙◌, ap, subst, arith, length-take}
-use Rattle.std.specs.Prelude.{Result, Ok, Err, IfOk}
-use Rattle.std.proofs.lemmas.Bool.{cases_eq}
-use Rattle.std.proofs.lemmas.Bool.Decides.{nat_tests}
-use Rattle.std.proofs.lemmas.List.{take-take, drop-take, drop-drop, take_at, drop_at, drop_all, append-nil, append_assoc}
-use Rattle.disk_model.specs.Files.{written, Torn}
-use Rattle.page_store.specs.Pages.{part}
-use Rattle.page_store.specs.Batches.{IsPartRead, IsHeadRead}
+use Rattle.std.proofs.Common.{◌≡◌, ◌⊎◌, inl, inr, ⊎_elim, ℕ, ◌+◌, ◌-◌, ◌≤◌, min, nat_eq, Bool, true, false, List, [], ◌++◌, replicate, length, take, drop, refl, sym, ◌∙◌, ap, subst, arith, length-take, Result, Ok, Err, IfOk, take-take, drop-drop, take_at, drop_at, append-nil, append_assoc}
+use Rattle.seg_words.specs.Types.{BLOCK_SIZE}
+use Rattle.seg_words.proofs.Lemmas.{cases_eq, nat_tests, drop_all}
+use Rattle.std.proofs.lemmas.List.{drop-take}
+use Rattle.disk_model.specs.Types.{written, Torn}
+use Rattle.page_store.specs.Types.{part, IsPartRead, IsHeadRead, AREA_AT, AREA_END}
 
 -- what a read of a page gives
-pub read_whole : (n at : ℕ) (bytes page was : List ℕ) → length was ≡ 4096 → n ≡ min (length was) (length bytes - at) → page ≡ take n (drop at bytes) ++ drop n was → IsPartRead at bytes page (nat_eq n 4096)
-read_whole n at bytes page was long count is = elim (cases_eq n 4096) [
+pub read_whole : (n at : ℕ) (bytes page was : List ℕ) → length was ≡ BLOCK_SIZE → n ≡ min (length was) (length bytes - at) → page ≡ take n (drop at bytes) ++ drop n was → IsPartRead at bytes page (nat_eq n BLOCK_SIZE)
+read_whole n at bytes page was long count is = elim (cases_eq n BLOCK_SIZE) [
   | inl whole ↦ (
-      let test : nat_eq n 4096 ≡ true = grind (arith, nat_tests, whole) in
+      let test : nat_eq n BLOCK_SIZE ≡ true = grind (arith, nat_tests, whole) in
       let none : drop n was ≡ [] = drop_all n was (omega arith) in
-      let same : page ≡ part at 4096 bytes = is ∙ ap (λ (l : List ℕ). take n (drop at bytes) ++ l) none ∙ append-nil (take n (drop at bytes)) ∙ ap (λ (k : ℕ). take k (drop at bytes)) whole in
+      let same : page ≡ part at BLOCK_SIZE bytes = is ∙ ap (λ (l : List ℕ). take n (drop at bytes) ++ l) none ∙ append-nil (take n (drop at bytes)) ∙ ap (λ (k : ℕ). take k (drop at bytes)) whole in
       subst (IsPartRead at bytes page) (sym test) (omega arith, same)
       )
   | inr cut ↦ (
-      let test : nat_eq n 4096 ≡ false = grind (arith, nat_tests, cut) in
+      let test : nat_eq n BLOCK_SIZE ≡ false = grind (arith, nat_tests, cut) in
       subst (IsPartRead at bytes page) (sym test) (omega arith)
       )
 ]
 
 -- what a read of the area's head gives, where the file is that long
-pub head_read : (bytes head : List ℕ) (whole : Bool) → 151552 ≤ length bytes → IsPartRead 16384 bytes head whole → IsHeadRead bytes head whole
+pub head_read : (bytes head : List ℕ) (whole : Bool) → AREA_END ≤ length bytes → IsPartRead AREA_AT bytes head whole → IsHeadRead bytes head whole
 head_read bytes head true long is = (long, is.1)
 head_read bytes head false long is = absurd (omega arith)
 
-pub head_found : {E : Type 0} (old bytes head : List ℕ) (r : Result Bool E) → bytes ≡ old → 151552 ≤ length old → IfOk r (IsPartRead 16384 bytes head) → IfOk r (IsHeadRead old head)
-head_found old bytes head (Ok whole) same long is = head_read old head whole long (subst (λ (l : List ℕ). IsPartRead 16384 l head whole) same is)
+pub head_found : {E : Type 0} (old bytes head : List ℕ) (r : Result Bool E) → bytes ≡ old → AREA_END ≤ length old → IfOk r (IsPartRead AREA_AT bytes head) → IfOk r (IsHeadRead old head)
+head_found old bytes head (Ok whole) same long is = head_read old head whole long (subst (λ (l : List ℕ). IsPartRead AREA_AT l head whole) same is)
 head_found old bytes head (Err e) same long is = is
 
 part_within : (k n at : ℕ) (l : List ℕ) → k + n ≤ at → part k n (take at l) ≡ part k n l

@@ -1,19 +1,10 @@
 -- The steps of a batch one after the other, over plain disks.
-use Rattle.std.proofs.Common.{◌≡◌, inl, inr, ℕ, List, sym, ap, subst}
-use Rattle.std.specs.Prelude.{Err}
-use Rattle.seg_base.specs.declared.shape.Shape.{Shape}
-use Rattle.disk_model.specs.Files.{Files}
-use Rattle.disk_model.specs.Crash.{Meaning, Leaves}
-use Rattle.disk_model.specs.Only.{OnlyFile, Settles}
+use Rattle.std.proofs.Common.{◌≡◌, inl, inr, ℕ, List, sym, ap, subst, Err}
+use Rattle.seg_words.specs.Types.{Shape}
+use Rattle.disk_model.specs.Types.{Files, Meaning, Leaves, OnlyFile, Settles}
 use Rattle.disk_model.specs.declared.disk.File.TheVariants.{Data}
-use Rattle.disk_model.proofs.OneFile.{only_weaker}
-use Rattle.disk_model.proofs.Runs.{settles_then, settles_so, leaves_then, leaves_so}
-use Rattle.page_store.specs.Pages.{HasPages, copies_of}
-use Rattle.page_store.specs.Batches.{after, IsShut, IsUnfinished, Leads, WholeOrNot, Answers}
-use Rattle.page_store.specs.Steps.{IsCopied, IsOpened, IsPlaced}
-use Rattle.page_store.specs.declared.page.RawPage.{RawPage}
-use Rattle.page_store.specs.declared.fault.PageFault.{PageFault}
-use Rattle.page_store.specs.declared.fault.PageFault.TheVariants.{DeviceFault, BadPage, NoMemory}
+use Rattle.disk_model.proofs.Lemmas.{only_weaker, settles_then, settles_so, leaves_then, leaves_so}
+use Rattle.page_store.specs.Types.{HasPages, copies_of, after, IsShut, IsUnfinished, Leads, WholeOrNot, Answers, IsCopied, IsOpened, IsPlaced, RawPage, PageFault, DeviceFault, BadPage, NoMemory}
 use Rattle.page_store.proofs.Stages.{own_copies, same_pages}
 
 pub settles_lead : {D : Type 0} (meaning : Meaning D) (old new : D) (shape : Shape) (pages : ℕ → List ℕ) → Settles meaning old new Data (IsShut shape pages) → Leads meaning old new shape pages

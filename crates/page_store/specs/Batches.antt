@@ -1,9 +1,8 @@
 -- A batch of pages, and what a disk has before it and after it.
 use Rattle.std.specs.Prelude.{◌≡◌, ◌≢◌, ◌⊎◌, ℕ, ◌+◌, ◌*◌, ◌<◌, ◌≤◌, Bool, true, false, List, length, map, Option, Some, None, Result, Ok, Err}
-use Rattle.seg_base.specs.declared.shape.Shape.{Shape}
-use Rattle.disk_model.specs.Files.{Files}
-use Rattle.disk_model.specs.Crash.{Meaning, Now}
-use Rattle.disk_model.specs.Only.{IsSettled, OnlyFile}
+use Rattle.page_store.specs.declared.area.TheConstants.{AREA_END}
+use Rattle.seg_words.specs.Types.{Shape, BLOCK_SIZE, DOUBLE_WRITE_BLOCK}
+use Rattle.disk_model.specs.Types.{Files, Meaning, Now, IsSettled, OnlyFile}
 use Rattle.disk_model.specs.declared.disk.File.TheVariants.{Data}
 use Rattle.page_store.specs.Pages.{part, gate, block, page_in, is_sound_area, head_blocks, HasPages}
 use Rattle.page_store.specs.declared.page.RawPage.{RawPage}
@@ -26,7 +25,7 @@ pub record IsShut (shape : Shape) (pages : ℕ → List ℕ) (bytes : List ℕ) 
 pub record IsUnfinished (shape : Shape) (pages : ℕ → List ℕ) (blocks bytes : List ℕ) : Type 0 where
   pub has : HasPages shape pages bytes
   pub one : gate bytes ≡ 1
-  pub named : blocks ≡ head_blocks (block 4 bytes)
+  pub named : blocks ≡ head_blocks (block DOUBLE_WRITE_BLOCK bytes)
 
 -- The disk has a store with these pages, between two batches, all of it on the disk.
 pub record IsStore {D : Type 0} (meaning : Meaning D) (disk : D) (shape : Shape) (pages : ℕ → List ℕ) : Type 0 where
@@ -45,35 +44,35 @@ WholeOrNot shape pages batch bytes = HasPages shape pages bytes ⊎ HasPages sha
 
 -- 4,096 bytes from a place on were read, where the file has as many there
 abbrev pub IsPartRead : ℕ → List ℕ → List ℕ → Bool → Type 0
-IsPartRead at bytes page true = (at + 4096 ≤ length bytes) × (page ≡ part at 4096 bytes)
-IsPartRead at bytes page false = length bytes < at + 4096
+IsPartRead at bytes page true = (at + BLOCK_SIZE ≤ length bytes) × (page ≡ part at BLOCK_SIZE bytes)
+IsPartRead at bytes page false = length bytes < at + BLOCK_SIZE
 
 -- the head of the area was read, where the file has all of the area
 abbrev pub IsHeadRead : List ℕ → List ℕ → Bool → Type 0
-IsHeadRead bytes head true = (151552 ≤ length bytes) × (head ≡ block 4 bytes)
-IsHeadRead bytes head false = length bytes < 151552
+IsHeadRead bytes head true = (AREA_END ≤ length bytes) × (head ≡ block DOUBLE_WRITE_BLOCK bytes)
+IsHeadRead bytes head false = length bytes < AREA_END
 
 -- What a look at the area says of the file, unless the device failed: the blocks of its copies, where its gate is open.
 -- The fault of an area names its head.
 abbrev pub IsAreaFound : Shape → List ℕ → Result (Option (List ℕ)) PageFault → Type 0
 IsAreaFound shape bytes (Ok None) = (is_sound_area shape bytes ≡ true) × (gate bytes ≢ 1)
-IsAreaFound shape bytes (Ok (Some blocks)) = (is_sound_area shape bytes ≡ true) × (gate bytes ≡ 1) × (blocks ≡ head_blocks (block 4 bytes))
+IsAreaFound shape bytes (Ok (Some blocks)) = (is_sound_area shape bytes ≡ true) × (gate bytes ≡ 1) × (blocks ≡ head_blocks (block DOUBLE_WRITE_BLOCK bytes))
 IsAreaFound shape bytes (Err DeviceFault) = Unit {0}
-IsAreaFound shape bytes (Err (BadPage dba)) = (is_sound_area shape bytes ≡ false) × (dba ≡ 4)
+IsAreaFound shape bytes (Err (BadPage dba)) = (is_sound_area shape bytes ≡ false) × (dba ≡ DOUBLE_WRITE_BLOCK)
 IsAreaFound shape bytes (Err NoMemory) = ⊥
 
 -- what an opening says of the file
 abbrev pub IsOpening : Shape → List ℕ → Result Shape PageFault → Type 0
 IsOpening shape bytes (Ok store) = is_sound_area shape bytes ≡ true
 IsOpening shape bytes (Err DeviceFault) = Unit {0}
-IsOpening shape bytes (Err (BadPage dba)) = (is_sound_area shape bytes ≡ false) × (dba ≡ 4)
+IsOpening shape bytes (Err (BadPage dba)) = (is_sound_area shape bytes ≡ false) × (dba ≡ DOUBLE_WRITE_BLOCK)
 IsOpening shape bytes (Err NoMemory) = ⊥
 
 -- what a look at a page says of the file
 abbrev pub IsLook : List ℕ → ℕ → List ℕ → Result (Unit {0}) PageFault → Type 0
-IsLook bytes dba page (Ok done) = (4096 * dba + 4096 ≤ length bytes) × (page ≡ block dba bytes)
+IsLook bytes dba page (Ok done) = (BLOCK_SIZE * dba + BLOCK_SIZE ≤ length bytes) × (page ≡ block dba bytes)
 IsLook bytes dba page (Err DeviceFault) = Unit {0}
-IsLook bytes dba page (Err (BadPage d)) = (length bytes < 4096 * dba + 4096) × (d ≡ dba)
+IsLook bytes dba page (Err (BadPage d)) = (length bytes < BLOCK_SIZE * dba + BLOCK_SIZE) × (d ≡ dba)
 IsLook bytes dba page (Err NoMemory) = ⊥
 
 -- this holds at Ok, and no other fault comes than one of the device

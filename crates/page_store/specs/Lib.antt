@@ -1,3 +1,4 @@
+pub mod Types
 pub mod Pages
 pub mod Batches
 pub mod Steps

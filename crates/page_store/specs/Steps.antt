@@ -1,9 +1,6 @@
 -- What each step of a batch leaves in the file.
 use Rattle.std.specs.Prelude.{◌≡◌, ◌≢◌, ℕ, ◌*◌, ◌<◌, ◌≤◌, true, List, length, get_or}
-use Rattle.std.specs.Int.{w32, to_be_bytes}
-use Rattle.std.specs.List.{AllByRecursion}
-use Rattle.seg_base.specs.Places.{is_shape}
-use Rattle.seg_base.specs.declared.shape.Shape.{Shape}
+use Rattle.seg_words.specs.Types.{w32, to_be_bytes, AllByRecursion, is_shape, Shape, BLOCK_SIZE}
 use Rattle.page_store.specs.Pages.{gate, block, copies_of, is_place, is_batch}
 use Rattle.page_store.specs.Batches.{blocks_of, IsShut}
 use Rattle.page_store.specs.declared.page.RawPage.{RawPage}
@@ -15,12 +12,12 @@ abbrev pub IsNotIn : ℕ → List RawPage → Type 0
 IsNotIn b batch = AllByRecursion (λ (p : RawPage). p.dba ≢ b) batch
 
 abbrev pub AreWhole : List RawPage → Type 0
-AreWhole batch = AllByRecursion (λ (p : RawPage). length p.bytes ≡ 4096) batch
+AreWhole batch = AllByRecursion (λ (p : RawPage). length p.bytes ≡ BLOCK_SIZE) batch
 
 -- The area has the copies of a batch, and in all other blocks stand the pages.
 pub record HasCopies (shape : Shape) (pages : ℕ → List ℕ) (batch : List RawPage) (bytes : List ℕ) : Type 0 where
   pub within : is_shape shape ≡ true
-  pub long : 4096 * shape.blocks ≤ length bytes
+  pub long : BLOCK_SIZE * shape.blocks ≤ length bytes
   pub places : is_batch shape (blocks_of batch) ≡ true
   pub whole : AreWhole batch
   pub copies : copies_of bytes ≡ batch

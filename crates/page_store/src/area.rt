@@ -1,9 +1,7 @@
 // The double-write area as an opening finds it.
 ghost use Rattle.std.specs.Prelude.{◌≡◌, ◌≤◌, ◌<◌, ◌+◌, ◌*◌, ℕ, length, slice_index, take, drop, true, false, IfOk, IfErr, IsErr, IsErrOf, MatchBool, MatchOption};
-ghost use Rattle.std.specs.Int.{w32};
-ghost use Rattle.std.specs.List.{list_all};
-ghost use Rattle.seg_base.specs.Fields.{number_in};
-ghost use Rattle.disk_model.specs.Crash.{Causes, Untouched};
+ghost use Rattle.seg_words.specs.Types.{w32, list_all, number_in};
+ghost use Rattle.disk_model.specs.Types.{Causes, Untouched};
 ghost use Rattle.page_store.specs.Pages.{part, is_place as place_test, is_batch as batch_test, are_apart as apart_test, head_blocks};
 ghost use Rattle.page_store.specs.Batches.{IsPartRead, IsHeadRead, IsAreaFound};
 
@@ -11,36 +9,45 @@ use crate::PageFault;
 use crate::page::is_place;
 use disk_model::{Disk, File};
 use page_bytes::number_u32;
-use seg_base::{Dba, Failed, Shape};
+use seg_base::{BLOCK_SIZE, DOUBLE_WRITE_BLOCK, DOUBLE_WRITE_PAGES, Dba, Failed, Shape};
 use std::marker::Model;
 
 /// Where the area's head begins, with its gate.
-pub(crate) const AREA_AT: u64 = 16_384;
+pub const AREA_AT: u64 = DOUBLE_WRITE_BLOCK as u64 * BLOCK_SIZE as u64;
 
 /// Where its copies begin.
-pub(crate) const COPIES_AT: u64 = 20_480;
+pub const COPIES_AT: u64 = FIRST_COPY as u64 * BLOCK_SIZE as u64;
 
 /// Where the area ends.
-const AREA_END: u64 = 151_552;
+pub const AREA_END: u64 = COPIES_AT + DOUBLE_WRITE_PAGES as u64 * BLOCK_SIZE as u64;
+
+/// The blocks of the first copy and of the last one.
+pub const FIRST_COPY: u32 = DOUBLE_WRITE_BLOCK + 1;
+
+pub const LAST_COPY: u32 = DOUBLE_WRITE_BLOCK + DOUBLE_WRITE_PAGES as u32;
+
+/// Where the numbers of the copies' blocks begin in the area's head, behind its gate and their count.
+pub const NUMBERS_AT: usize = 2;
 
 /// The page of the double-write area that a fault of it names.
-pub(crate) const AREA_HEAD: Dba = Dba(4);
+pub(crate) const AREA_HEAD: Dba = Dba(DOUBLE_WRITE_BLOCK);
 
 /// The blocks that an area has copies of.
 #[derive(Drop)]
 pub(crate) struct Listed {
-    blocks: [u32; 32],
+    blocks: [u32; DOUBLE_WRITE_PAGES as usize],
     count: usize,
 }
 
 impl Model for Listed {
     ghost use Rattle.std.specs.Prelude.{ℕ, List, take, ◌≤◌};
+    ghost use Rattle.seg_words.specs.Types.{DOUBLE_WRITE_PAGES};
 
     ghost Value = { List ℕ };
 
     ghost view = { λ listed. take listed.count listed.blocks };
 
-    ghost invariant = { λ listed. listed.count ≤ 32 };
+    ghost invariant = { λ listed. listed.count ≤ DOUBLE_WRITE_PAGES };
 }
 
 impl Listed {
@@ -51,12 +58,12 @@ impl Listed {
     }
 }
 
-/// Reads 4,096 bytes, and answers whether the data file has as many there.
+/// Reads a page, and answers whether the data file has as many there.
 #[tactic(auto, using(disk_model::proofs::Going::untouched_call))]
 pub(crate) fn read_page<D: Disk>(
     disk: &mut D,
     at: u64,
-    into: &mut [u8; 4096],
+    into: &mut [u8; BLOCK_SIZE],
 ) -> Result<bool, Failed>
     ensures found { D.meaning.told disk.old → IfOk result (IsPartRead at (D.meaning.files disk.old).data_bytes into.new) }
     ensures cause { Causes D.meaning disk.old disk.new (IsErr result) }
@@ -64,17 +71,17 @@ pub(crate) fn read_page<D: Disk>(
     ensures reads { D.meaning.told disk.old → D.meaning.log_reads disk.new ≡ D.meaning.log_reads disk.old }
 {
     let count = disk.read(File::Data, at, into)?;
-    Ok(count == 4096)
+    Ok(count == BLOCK_SIZE)
 }
 
 // The numbers in an area's head.
-fn numbers(head: &[u8; 4096]) -> [u32; 32]
-    ensures long { length result ≡ 32 }
-    ensures each { (i : ℕ) → i < 32 → slice_index result i ≡ number_in w32 head.now (2 + 4 * i) }
+fn numbers(head: &[u8; BLOCK_SIZE]) -> [u32; DOUBLE_WRITE_PAGES as usize]
+    ensures long { length result ≡ DOUBLE_WRITE_PAGES }
+    ensures each { (i : ℕ) → i < DOUBLE_WRITE_PAGES → slice_index result i ≡ number_in w32 head.now (NUMBERS_AT + 4 * i) }
 {
     let mut blocks = [0; 32];
     for (i, block) in blocks.iter_mut().enumerate() {
-        *block = number_u32(head, 2 + 4 * i);
+        *block = number_u32(head, NUMBERS_AT + 4 * i);
     }
     blocks
 }
@@ -100,7 +107,7 @@ fn are_places(shape: &Shape, blocks: &[u32]) -> bool
 fn is_batch(shape: &Shape, blocks: &[u32]) -> bool
     ensures { result ≡ batch_test shape.now blocks.now }
 {
-    if blocks.is_empty() || blocks.len() > 32 {
+    if blocks.is_empty() || blocks.len() > DOUBLE_WRITE_PAGES as usize {
         return false;
     }
     if !are_places(shape, blocks) {
@@ -110,11 +117,11 @@ fn is_batch(shape: &Shape, blocks: &[u32]) -> bool
 }
 
 // The blocks that a head names, where they are those of a batch.
-fn blocks_in(shape: &Shape, head: &[u8; 4096]) -> Option<Listed>
+fn blocks_in(shape: &Shape, head: &[u8; BLOCK_SIZE]) -> Option<Listed>
     ensures { MatchOption result (batch_test shape.now (head_blocks head.now) ≡ false) (λ blocks. (blocks ≡ head_blocks head.now) × (batch_test shape.now blocks ≡ true)) }
 {
     let count = head[1] as usize;
-    if count > 32 {
+    if count > DOUBLE_WRITE_PAGES as usize {
         return None;
     }
     let blocks = numbers(head);
@@ -126,7 +133,7 @@ fn blocks_in(shape: &Shape, head: &[u8; 4096]) -> Option<Listed>
 
 // Reads the head of the area, and answers whether the data file has the whole area.
 #[tactic(auto, using(disk_model::proofs::Going::untouched_then, disk_model::proofs::Going::untouched_call))]
-fn read_head<D: Disk>(disk: &mut D, head: &mut [u8; 4096]) -> Result<bool, Failed>
+fn read_head<D: Disk>(disk: &mut D, head: &mut [u8; BLOCK_SIZE]) -> Result<bool, Failed>
     ensures found { D.meaning.told disk.old → IfOk result (IsHeadRead (D.meaning.files disk.old).data_bytes head.new) }
     ensures cause { Causes D.meaning disk.old disk.new (IsErr result) }
     ensures untouched { Untouched D.meaning disk.old disk.new }
@@ -147,7 +154,7 @@ pub(crate) fn find_area<D: Disk>(disk: &mut D, shape: &Shape) -> Result<Option<L
     ensures untouched { Untouched D.meaning disk.old disk.new }
     ensures reads { D.meaning.told disk.old → D.meaning.log_reads disk.new ≡ D.meaning.log_reads disk.old }
 {
-    let mut head = [0; 4096];
+    let mut head = [0; BLOCK_SIZE];
     let whole = read_head(disk, &mut head)?;
     if !whole {
         return Err(PageFault::BadPage { dba: AREA_HEAD });

@@ -9,6 +9,7 @@ mod store;
 mod tests;
 mod writing;
 
+pub use area::{AREA_AT, AREA_END, COPIES_AT, FIRST_COPY, LAST_COPY, NUMBERS_AT};
 pub use fault::PageFault;
 pub use page::{RawPage, is_place};
 pub use store::{PageStore, open};

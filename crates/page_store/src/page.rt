@@ -2,20 +2,21 @@
 ghost use Rattle.std.specs.Prelude.{◌≡◌, ◌*◌, length};
 ghost use Rattle.page_store.specs.Pages.{is_place as place_test};
 
-use seg_base::{Dba, Shape};
+use crate::area::LAST_COPY;
+use seg_base::{BLOCK_SIZE, DOUBLE_WRITE_BLOCK, Dba, Shape};
 
 /// A page as its block has it.
 #[derive(Clone, Copy, Debug, PartialEq, Eq, Drop)]
 pub struct RawPage {
     pub dba: Dba,
-    pub bytes: [u8; 4096],
+    pub bytes: [u8; BLOCK_SIZE],
 }
 
 /// Where a block begins in the data file.
 pub(crate) fn offset_of(dba: Dba) -> u64
-    ensures { result ≡ 4096 * dba }
+    ensures { result ≡ BLOCK_SIZE * dba }
 {
-    4096 * u64::from(dba.0)
+    BLOCK_SIZE as u64 * u64::from(dba.0)
 }
 
 impl RawPage {
@@ -23,7 +24,7 @@ impl RawPage {
 
     /// Where its block begins in the data file.
     pub(crate) fn offset(&self) -> u64
-        ensures { result ≡ 4096 * self.now.dba }
+        ensures { result ≡ BLOCK_SIZE * self.now.dba }
     {
         offset_of(self.dba)
     }
@@ -38,7 +39,7 @@ impl RawPage {
     /// Its 4,096 bytes.
     pub(crate) fn as_slice(&self) -> &[u8]
         ensures bytes { result.now ≡ self.now.bytes }
-        ensures whole { length self.now.bytes ≡ 4096 }
+        ensures whole { length self.now.bytes ≡ BLOCK_SIZE }
     {
         &self.bytes
     }
@@ -48,5 +49,5 @@ impl RawPage {
 pub fn is_place(shape: &Shape, dba: Dba) -> bool
     ensures { result ≡ place_test shape.now dba }
 {
-    dba.0 < shape.blocks && (dba.0 < 4 || dba.0 > 36)
+    dba.0 < shape.blocks && (dba.0 < DOUBLE_WRITE_BLOCK || dba.0 > LAST_COPY)
 }

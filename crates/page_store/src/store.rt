@@ -1,19 +1,18 @@
 // The pages of a data file.
 ghost use Rattle.std.specs.Prelude.{◌≡◌, ◌≢◌, ◌↔◌, ◌≤◌, ℕ, List, length, true, false, IfOk, IfErr, OnOk, IsErr, IsErrOf};
-ghost use Rattle.seg_base.specs.declared.shape.Shape.{Shape};
-ghost use Rattle.disk_model.specs.Crash.{Leaves, Causes, Untouched};
-ghost use Rattle.disk_model.specs.Only.{OnlyFile, IsSettled, Settles};
+ghost use Rattle.seg_words.specs.Types.{Shape};
+ghost use Rattle.disk_model.specs.Types.{Leaves, Causes, Untouched, OnlyFile, IsSettled, Settles};
 ghost use Rattle.disk_model.specs.declared.disk.File.TheVariants.{Data};
 ghost use Rattle.page_store.specs.declared.page.RawPage.{RawPage};
 ghost use Rattle.page_store.specs.Pages.{HasPages, is_place, is_batch, needs_finish};
 ghost use Rattle.page_store.specs.Batches.{after, blocks_of, IsShut, IsStore, IsUnfinished, Leads, WholeOrNot, IsOpening, IsLook, Answers};
 
-use crate::area::{find_area, read_page};
+use crate::area::{AREA_END, find_area, read_page};
 use crate::page::offset_of;
 use crate::writing::{close_area, open_area, place_copies, write_copies, write_places};
 use crate::{PageFault, RawPage};
 use disk_model::Disk;
-use seg_base::{Dba, Failed, Shape};
+use seg_base::{BLOCK_SIZE, DOUBLE_WRITE_PAGES, Dba, Failed, Shape};
 use std::marker::Model;
 
 /// The data file of a store as a map of pages, seen as the store's shape.
@@ -23,7 +22,7 @@ pub struct PageStore {
 }
 
 impl Model for PageStore {
-    ghost use Rattle.seg_base.specs.declared.shape.Shape.{Shape};
+    ghost use Rattle.seg_words.specs.Types.{Shape};
 
     ghost Value = { Shape };
 
@@ -34,12 +33,12 @@ impl Model for PageStore {
 
 // Finishes the batch that the area has copies of.
 fn finish<D: Disk>(disk: &mut D, blocks: &[u32]) -> Result<(), PageFault>
-    requires { length blocks.now ≤ 32 }
+    requires { length blocks.now ≤ DOUBLE_WRITE_PAGES }
     ensures any_moment { (shape : Shape) (pages : ℕ → List ℕ) → IsSettled D.meaning disk.old Data → IsUnfinished shape pages blocks.now (D.meaning.files disk.old).data_bytes
         → Leaves D.meaning disk.old disk.new (OnlyFile D.meaning disk.old Data (HasPages shape pages)) }
     ensures done { (shape : Shape) (pages : ℕ → List ℕ) → IsSettled D.meaning disk.old Data → IsUnfinished shape pages blocks.now (D.meaning.files disk.old).data_bytes
         → Answers result (λ _. Settles D.meaning disk.old disk.new Data (IsShut shape pages)) }
-    ensures whole { D.meaning.told disk.old → 151552 ≤ length (D.meaning.files disk.old).data_bytes → IfErr result (λ e. e ≡ PageFault.DeviceFault) }
+    ensures whole { D.meaning.told disk.old → AREA_END ≤ length (D.meaning.files disk.old).data_bytes → IfErr result (λ e. e ≡ PageFault.DeviceFault) }
     ensures cause { Causes D.meaning disk.old disk.new (IsErrOf result PageFault.DeviceFault) }
     ensures told { D.meaning.told disk.new ↔ D.meaning.told disk.old }
     ensures reads { D.meaning.told disk.old → D.meaning.log_reads disk.new ≡ D.meaning.log_reads disk.old }
@@ -56,7 +55,7 @@ fn finish<D: Disk>(disk: &mut D, blocks: &[u32]) -> Result<(), PageFault>
 
 // Writes a batch.
 fn put_batch<D: Disk>(disk: &mut D, batch: &[RawPage]) -> Result<(), Failed>
-    requires { length batch.now ≤ 32 }
+    requires { length batch.now ≤ DOUBLE_WRITE_PAGES }
     ensures any_moment { (shape : Shape) (pages : ℕ → List ℕ) → IsStore D.meaning disk.old shape pages → is_batch shape (blocks_of batch.now) ≡ true
         → Leaves D.meaning disk.old disk.new (OnlyFile D.meaning disk.old Data (WholeOrNot shape pages batch.now)) }
     ensures done { (shape : Shape) (pages : ℕ → List ℕ) → IsStore D.meaning disk.old shape pages → is_batch shape (blocks_of batch.now) ≡ true
@@ -127,7 +126,7 @@ impl PageStore {
         &mut self,
         disk: &mut D,
         dba: Dba,
-        into: &mut [u8; 4096],
+        into: &mut [u8; BLOCK_SIZE],
     ) -> Result<(), PageFault>
         requires { is_place self.old dba ≡ true }
         ensures page { (pages : ℕ → List ℕ) → IsStore D.meaning disk.old self.old pages → Answers result (λ _. into.new ≡ pages dba) }

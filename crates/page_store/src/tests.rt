@@ -3,9 +3,9 @@ ghost use Rattle.std.specs.Prelude.{◌≡◌, true, IfOk};
 ghost use Rattle.page_store.specs.Pages.{is_batch};
 ghost use Rattle.page_store.specs.Batches.{blocks_of};
 
-use crate::{PageFault, PageStore, RawPage, is_place, open};
+use crate::{AREA_AT, COPIES_AT, PageFault, PageStore, RawPage, is_place, open};
 use disk_model::{Disk, File, Memory, Stopping, Tear};
-use seg_base::{Dba, Shape};
+use seg_base::{BLOCK_SIZE, Dba, Shape};
 use std::alloc::Global;
 use std::test::Fail;
 
@@ -26,7 +26,7 @@ fn page(block: u32, fill: u8) -> RawPage
 {
     RawPage {
         dba: Dba(block),
-        bytes: [fill; 4096],
+        bytes: [fill; BLOCK_SIZE],
     }
 }
 
@@ -45,9 +45,9 @@ fn ends_of<D: Disk>(store: &mut PageStore, disk: &mut D, block: u32) -> Result<(
     if !is_place(&SHAPE, Dba(block)) {
         return Err("no place")?;
     }
-    let mut bytes = [1; 4096];
+    let mut bytes = [1; BLOCK_SIZE];
     store.get(disk, Dba(block), &mut bytes)?;
-    Ok((bytes[0], bytes[4095]))
+    Ok((bytes[0], bytes[BLOCK_SIZE - 1]))
 }
 
 // The ends of the pages of the batch, and of one beside it.
@@ -87,9 +87,9 @@ fn a_stop_leaves_a_batch_whole_or_not_at_all(rt: HostRuntime) -> Result<(), Fail
 // What an opening answers where these bytes begin the area, and its copies are of this byte.
 fn opened(alloc: Global, head: &[u8], fill: u8) -> Result<Result<(u8, u8), PageFault>, Fail> {
     let mut disk = zeros(alloc, 262_144)?;
-    let copies = [fill; 8192];
-    if disk.write_at(File::Data, 20_480, &copies).is_err()
-        || disk.write_at(File::Data, 16_384, head).is_err()
+    let copies = [fill; 2 * BLOCK_SIZE];
+    if disk.write_at(File::Data, COPIES_AT, &copies).is_err()
+        || disk.write_at(File::Data, AREA_AT, head).is_err()
     {
         return Err("no write")?;
     }
@@ -123,7 +123,7 @@ fn each_damage_of_the_area_is_refused(rt: HostRuntime) -> Result<(), Fail> {
     assert_eq!(rt; open(&mut cut, SHAPE).err(), bad.err());
     let mut short = zeros(alloc, 151_552)?;
     let mut store = open(&mut short, SHAPE)?;
-    let mut bytes = [0; 4096];
+    let mut bytes = [0; BLOCK_SIZE];
     let missing = PageFault::BadPage { dba: Dba(37) };
     assert_eq!(rt; store.get(&mut short, Dba(37), &mut bytes), Err(missing));
     let mut failing = Memory::new(alloc, b"", b"", &[0])?;

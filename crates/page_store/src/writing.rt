@@ -1,29 +1,26 @@
 // The steps of a batch, each synced before the next one begins.
-ghost use Rattle.std.specs.Prelude.{◌≡◌, ◌↔◌, ◌≤◌, ◌+◌, ◌*◌, ◌∷◌, ◌++◌, ℕ, List, length, drop, true, OnOk, IfErr, IsErr, IsErrOf};
-ghost use Rattle.std.specs.Int.{w32, to_be_bytes};
-ghost use Rattle.std.specs.List.{flat_map};
-ghost use Rattle.seg_base.specs.declared.shape.Shape.{Shape};
-ghost use Rattle.page_bytes.specs.Pages.{page_of as page_with};
-ghost use Rattle.disk_model.specs.Crash.{Leaves, Causes};
-ghost use Rattle.disk_model.specs.Only.{OnlyFile, IsSettled, Settles};
+ghost use Rattle.std.specs.Prelude.{◌-◌, ◌≡◌, ◌↔◌, ◌≤◌, ◌+◌, ◌*◌, ◌∷◌, ◌++◌, ℕ, List, length, drop, true, OnOk, IfErr, IsErr, IsErrOf, flat_map};
+ghost use Rattle.seg_words.specs.Types.{w32, to_be_bytes, Shape};
+ghost use Rattle.page_bytes.specs.Types.{page_of as page_with};
+ghost use Rattle.disk_model.specs.Types.{Leaves, Causes, OnlyFile, IsSettled, Settles};
 ghost use Rattle.disk_model.specs.declared.disk.File.TheVariants.{Data};
 ghost use Rattle.page_store.specs.declared.page.RawPage.{RawPage};
 ghost use Rattle.page_store.specs.Pages.{HasPages, is_batch, block, head_blocks};
 ghost use Rattle.page_store.specs.Batches.{after, blocks_of, IsShut, IsStore, WholeOrNot, Answers};
 ghost use Rattle.page_store.specs.Steps.{IsCopied, IsOpened, IsPlaced, dba_bytes};
 
-use crate::area::{AREA_AT, AREA_HEAD, COPIES_AT, read_page};
+use crate::area::{AREA_AT, AREA_END, AREA_HEAD, COPIES_AT, read_page};
 use crate::{PageFault, RawPage};
 use disk_model::{Disk, File, write_and_sync};
 use page_bytes::{add, begin};
-use seg_base::Failed;
+use seg_base::{BLOCK_SIZE, DOUBLE_WRITE_BLOCK, DOUBLE_WRITE_PAGES, Failed};
 
 // The head of the area for a batch, its gate closed.
-fn head_bytes(batch: &[RawPage]) -> [u8; 4096]
-    requires { length batch.now ≤ 32 }
+fn head_bytes(batch: &[RawPage]) -> [u8; BLOCK_SIZE]
+    requires { length batch.now ≤ DOUBLE_WRITE_PAGES }
     ensures { result ≡ page_with (0 ∷ length batch.now ∷ flat_map dba_bytes batch.now) }
 {
-    let mut head = [0; 4096];
+    let mut head = [0; BLOCK_SIZE];
     let start = begin(&mut head);
     let mut at = add(&mut head, start, &[0, batch.len() as u8]);
     for page in batch {
@@ -33,9 +30,9 @@ fn head_bytes(batch: &[RawPage]) -> [u8; 4096]
 }
 
 // All of the head but its gate.
-fn behind_gate(head: &[u8; 4096]) -> &[u8]
+fn behind_gate(head: &[u8; BLOCK_SIZE]) -> &[u8]
     ensures bytes { result.now ≡ drop 1 head.now }
-    ensures long { length result.now ≡ 4095 }
+    ensures long { length result.now ≡ BLOCK_SIZE - 1 }
 {
     let (_gate, rest) = head.split_at(1);
     rest
@@ -43,7 +40,7 @@ fn behind_gate(head: &[u8; 4096]) -> &[u8]
 
 /// Writes the head of the area behind its closed gate, and the copies.
 pub(crate) fn write_copies<D: Disk>(disk: &mut D, batch: &[RawPage]) -> Result<(), Failed>
-    requires { length batch.now ≤ 32 }
+    requires { length batch.now ≤ DOUBLE_WRITE_PAGES }
     ensures any_moment { (shape : Shape) (pages : ℕ → List ℕ) → IsStore D.meaning disk.old shape pages → is_batch shape (blocks_of batch.now) ≡ true
         → Leaves D.meaning disk.old disk.new (OnlyFile D.meaning disk.old Data (IsShut shape pages)) }
     ensures done { (shape : Shape) (pages : ℕ → List ℕ) → IsStore D.meaning disk.old shape pages → is_batch shape (blocks_of batch.now) ≡ true
@@ -55,7 +52,8 @@ pub(crate) fn write_copies<D: Disk>(disk: &mut D, batch: &[RawPage]) -> Result<(
     let head = head_bytes(batch);
     disk.write_at(File::Data, AREA_AT + 1, behind_gate(&head))?;
     for (i, page) in batch.iter().enumerate() {
-        disk.write_at(File::Data, COPIES_AT + 4096 * i as u64, page.as_slice())?;
+        let at = COPIES_AT + BLOCK_SIZE as u64 * i as u64;
+        disk.write_at(File::Data, at, page.as_slice())?;
     }
     disk.sync(File::Data)
 }
@@ -91,24 +89,24 @@ pub(crate) fn write_places<D: Disk>(disk: &mut D, batch: &[RawPage]) -> Result<(
 
 /// Writes the copies of the area to their blocks.
 pub(crate) fn place_copies<D: Disk>(disk: &mut D, blocks: &[u32]) -> Result<(), PageFault>
-    requires { length blocks.now ≤ 32 }
+    requires { length blocks.now ≤ DOUBLE_WRITE_PAGES }
     ensures any_moment { (shape : Shape) (pages : ℕ → List ℕ) (batch : List RawPage) → IsSettled D.meaning disk.old Data → IsOpened shape pages batch (D.meaning.files disk.old).data_bytes
-        → blocks.now ≡ head_blocks (block 4 (D.meaning.files disk.old).data_bytes)
+        → blocks.now ≡ head_blocks (block DOUBLE_WRITE_BLOCK (D.meaning.files disk.old).data_bytes)
         → Leaves D.meaning disk.old disk.new (OnlyFile D.meaning disk.old Data (HasPages shape (after batch pages))) }
     ensures done { (shape : Shape) (pages : ℕ → List ℕ) (batch : List RawPage) → IsSettled D.meaning disk.old Data → IsOpened shape pages batch (D.meaning.files disk.old).data_bytes
-        → blocks.now ≡ head_blocks (block 4 (D.meaning.files disk.old).data_bytes)
+        → blocks.now ≡ head_blocks (block DOUBLE_WRITE_BLOCK (D.meaning.files disk.old).data_bytes)
         → Answers result (λ _. Settles D.meaning disk.old disk.new Data (IsPlaced shape pages batch)) }
-    ensures whole { D.meaning.told disk.old → 151552 ≤ length (D.meaning.files disk.old).data_bytes → IfErr result (λ e. e ≡ PageFault.DeviceFault) }
+    ensures whole { D.meaning.told disk.old → AREA_END ≤ length (D.meaning.files disk.old).data_bytes → IfErr result (λ e. e ≡ PageFault.DeviceFault) }
     ensures cause { Causes D.meaning disk.old disk.new (IsErrOf result PageFault.DeviceFault) }
     ensures told { D.meaning.told disk.new ↔ D.meaning.told disk.old }
     ensures reads { D.meaning.told disk.old → D.meaning.log_reads disk.new ≡ D.meaning.log_reads disk.old }
 {
-    let mut page = [0; 4096];
+    let mut page = [0; BLOCK_SIZE];
     for (i, block) in blocks.iter().enumerate() {
-        if !read_page(disk, COPIES_AT + 4096 * i as u64, &mut page)? {
+        if !read_page(disk, COPIES_AT + BLOCK_SIZE as u64 * i as u64, &mut page)? {
             return Err(PageFault::BadPage { dba: AREA_HEAD });
         }
-        disk.write_at(File::Data, 4096 * u64::from(*block), &page)?;
+        disk.write_at(File::Data, BLOCK_SIZE as u64 * u64::from(*block), &page)?;
     }
     disk.sync(File::Data)?;
     Ok(())

@@ -1,5 +1,5 @@
 use Rattle.std.proofs.Common.{Bool, subst}
-use Rattle.page_store.specs.Batches.{IsHeadRead}
+use Rattle.page_store.specs.Types.{IsHeadRead}
 use Rattle.page_store.proofs.Heads.{found_shut}
 use Rattle.page_store.proofs.area.find_area.Goals as goal
 

@@ -1,5 +1,5 @@
 use Rattle.std.proofs.Common.{ap, arith}
-use Rattle.disk_model.specs.Files.{Files}
+use Rattle.disk_model.specs.Types.{Files}
 use Rattle.page_store.proofs.Parts.{head_found}
 use Rattle.page_store.proofs.area.read_head.Goals as goal
 

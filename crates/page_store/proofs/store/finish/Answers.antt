@@ -1,8 +1,6 @@
-use Rattle.disk_model.specs.Only.{Settles}
+use Rattle.disk_model.specs.Types.{Settles}
 use Rattle.disk_model.specs.declared.disk.File.TheVariants.{Data}
-use Rattle.page_store.specs.Pages.{copies_of}
-use Rattle.page_store.specs.Batches.{IsShut}
-use Rattle.page_store.specs.Steps.{IsPlaced}
+use Rattle.page_store.specs.Types.{copies_of, IsShut, IsPlaced}
 use Rattle.page_store.proofs.Whole.{opened_now, placed_leaves, closed_leaves, closed_settles, fault_answers}
 use Rattle.page_store.proofs.store.finish.Goals as goal
 

@@ -1,9 +1,7 @@
-use Rattle.std.proofs.Common.{arith, ap}
-use Rattle.std.proofs.Common.{length}
-use Rattle.disk_model.specs.Files.{Files}
-use Rattle.disk_model.specs.Only.{Settles}
+use Rattle.std.proofs.Common.{arith, ap, length}
+use Rattle.disk_model.specs.Types.{Files, Settles}
 use Rattle.disk_model.specs.declared.disk.File.TheVariants.{Data}
-use Rattle.page_store.specs.Batches.{IsShut, Leads}
+use Rattle.page_store.specs.Types.{IsShut, Leads}
 use Rattle.page_store.proofs.Heads.{sound_long}
 use Rattle.page_store.proofs.Whole.{fault_answers}
 use Rattle.page_store.proofs.Opening.{same_fault, not_bad, none_found, some_found, device_fault, finished_only, looked_at, was_shut, unfinished, finish_leaves, finish_leads}

@@ -1,4 +1,4 @@
-use Rattle.disk_model.proofs.Moments.{on_ok}
+use Rattle.disk_model.proofs.Lemmas.{on_ok}
 use Rattle.page_store.proofs.Whole.{first_leaves, second_leaves, third_leaves, fourth_leaves, all_lead}
 use Rattle.page_store.proofs.store.put_batch.Goals as goal
 

@@ -1,7 +1,6 @@
-use Rattle.std.proofs.Common.{◌∷◌, length, take}
-use Rattle.std.specs.List.{flat_map}
-use Rattle.page_bytes.specs.Pages.{IsFront}
-use Rattle.page_store.specs.Steps.{dba_bytes}
+use Rattle.std.proofs.Common.{◌∷◌, length, take, flat_map}
+use Rattle.page_bytes.specs.Types.{IsFront}
+use Rattle.page_store.specs.Types.{dba_bytes}
 use Rattle.page_store.proofs.writing.head_bytes.Given as goal
 
 abbrev pub invariant-loop-page : goal.invariant-loop-page

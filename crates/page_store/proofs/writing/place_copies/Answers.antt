@@ -1,9 +1,8 @@
-use Rattle.std.proofs.Common.{◌∙◌, refl, ap, arith, ℕ, List, length}
-use Rattle.std.specs.Prelude.{Result, Ok}
-use Rattle.disk_model.specs.Files.{Files}
+use Rattle.std.proofs.Common.{◌∙◌, refl, ap, arith, ℕ, List, length, Result, Ok}
+use Rattle.disk_model.specs.Types.{Files}
 use Rattle.disk_model.specs.declared.disk.File.TheVariants.{Data}
-use Rattle.disk_model.proofs.Runs.{run_synced, run_settles}
-use Rattle.page_store.specs.Steps.{InPlace}
+use Rattle.disk_model.proofs.Lemmas.{run_synced, run_settles}
+use Rattle.page_store.specs.Types.{InPlace}
 use Rattle.page_store.proofs.Changes.{Stays}
 use Rattle.page_store.proofs.Stages.{BesideBatch, as_many}
 use Rattle.page_store.proofs.Moves.{cut_short, places_started, looked_leave, all_there, place_copy, more_copies, places_leave, places_settle}

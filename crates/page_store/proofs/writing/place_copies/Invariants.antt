@@ -1,12 +1,9 @@
-use Rattle.std.proofs.Common.{◌≡◌, ◌≤◌, List, ℕ, length}
-use Rattle.std.specs.Prelude.{◌↔◌}
-use Rattle.seg_base.specs.declared.shape.Shape.{Shape}
-use Rattle.disk_model.specs.Only.{IsSettled}
+use Rattle.std.proofs.Common.{◌≡◌, ◌≤◌, List, ℕ, length, ◌↔◌}
+use Rattle.seg_words.specs.Types.{Shape, DOUBLE_WRITE_BLOCK}
+use Rattle.disk_model.specs.Types.{IsSettled}
 use Rattle.disk_model.specs.declared.disk.File.TheVariants.{Data}
-use Rattle.disk_model.proofs.Runs.{Running}
-use Rattle.page_store.specs.Pages.{block, head_blocks}
-use Rattle.page_store.specs.Steps.{InPlace, IsOpened}
-use Rattle.page_store.specs.declared.page.RawPage.{RawPage}
+use Rattle.disk_model.proofs.Lemmas.{Running}
+use Rattle.page_store.specs.Types.{block, head_blocks, InPlace, IsOpened, RawPage}
 use Rattle.page_store.proofs.Changes.{Stays}
 use Rattle.page_store.proofs.Stages.{BesideBatch}
 use Rattle.page_store.proofs.writing.place_copies.Given as goal
@@ -20,5 +17,5 @@ invariant-loop-i g l =
       told : meaning.told l.disk ↔ meaning.told l.fn.disk;
       reads : meaning.told l.fn.disk → meaning.log_reads l.disk ≡ meaning.log_reads l.fn.disk;
       grows : meaning.told l.fn.disk → length old ≤ length (meaning.files l.disk).data_bytes;
-      run : (shape : Shape) (pages : ℕ → List ℕ) (batch : List RawPage) → IsSettled meaning l.fn.disk Data → IsOpened shape pages batch old → l.blocks ≡ head_blocks (block 4 old) → Running meaning l.fn.disk l.disk Data (Stays (BesideBatch batch) old) (InPlace l.i batch);
+      run : (shape : Shape) (pages : ℕ → List ℕ) (batch : List RawPage) → IsSettled meaning l.fn.disk Data → IsOpened shape pages batch old → l.blocks ≡ head_blocks (block DOUBLE_WRITE_BLOCK old) → Running meaning l.fn.disk l.disk Data (Stays (BesideBatch batch) old) (InPlace l.i batch);
     }

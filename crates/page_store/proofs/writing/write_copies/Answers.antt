@@ -1,6 +1,8 @@
 use Rattle.std.proofs.Common.{◌*◌, ◌+◌, ◌∙◌, refl, ap, arith, ℕ, List, drop}
+use Rattle.page_store.specs.Types.{COPIES_AT}
+use Rattle.seg_words.specs.Types.{BLOCK_SIZE}
 use Rattle.disk_model.specs.declared.disk.File.TheVariants.{Data}
-use Rattle.disk_model.proofs.Runs.{run_synced, run_settles}
+use Rattle.disk_model.proofs.Lemmas.{run_synced, run_settles}
 use Rattle.page_store.proofs.Changes.{Stays}
 use Rattle.page_store.proofs.Stages.{BesideArea}
 use Rattle.page_store.proofs.Moves.{Copying, copies_started, shut_leave, head_write, head_more, copy_write, copy_more, copies_settle}
@@ -31,7 +33,7 @@ loop-i-init g c =
 pub returns-in_err-write_at-2-clause-any_moment : goal.returns-in_err-write_at-2-clause-any_moment
 returns-in_err-write_at-2-clause-any_moment g c shape pages store places =
     let write = c.write_at-in-loop-i.ensures in
-    copy_write g.D.Disk.meaning c.args.disk.now c.args.batch.now shape pages store c.loop-i.disk c.write_at-in-loop-i.new.self c.loop-i.i c.index-batch-i.result (20480 + 4096 * c.loop-i.i) c.as_slice.result.now c.loop-i-test.true c.requires c.index-batch-i.is refl c.as_slice.ensures.bytes c.as_slice.ensures.whole (c.loop-i.invariant.run shape pages store) write.time write.crash
+    copy_write g.D.Disk.meaning c.args.disk.now c.args.batch.now shape pages store c.loop-i.disk c.write_at-in-loop-i.new.self c.loop-i.i c.index-batch-i.result (COPIES_AT + BLOCK_SIZE * c.loop-i.i) c.as_slice.result.now c.loop-i-test.true c.requires c.index-batch-i.is refl c.as_slice.ensures.bytes c.as_slice.ensures.whole (c.loop-i.invariant.run shape pages store) write.time write.crash
 
 pub loop-i-preserved : goal.loop-i-preserved
 loop-i-preserved g c =
@@ -41,7 +43,7 @@ loop-i-preserved g c =
       later = omega (arith, so_far.later, write.cause.later);
       told = (λ is. so_far.told.0 (write.told.0 is), λ is. write.told.1 (so_far.told.1 is));
       reads = write.reads ∙ so_far.reads;
-      run = λ shape pages store. copy_more g.D.Disk.meaning c.args.disk.now c.args.batch.now shape pages store c.loop-i.disk c.write_at-in-loop-i.new.self c.loop-i.i c.index-batch-i.result (20480 + 4096 * c.loop-i.i) c.as_slice.result.now c.loop-i-test.true c.requires c.index-batch-i.is refl c.as_slice.ensures.bytes c.as_slice.ensures.whole (so_far.run shape pages store) write.time write.crash write.told.1 c.in_ok-write_at-2.ensures.written;
+      run = λ shape pages store. copy_more g.D.Disk.meaning c.args.disk.now c.args.batch.now shape pages store c.loop-i.disk c.write_at-in-loop-i.new.self c.loop-i.i c.index-batch-i.result (COPIES_AT + BLOCK_SIZE * c.loop-i.i) c.as_slice.result.now c.loop-i-test.true c.requires c.index-batch-i.is refl c.as_slice.ensures.bytes c.as_slice.ensures.whole (so_far.run shape pages store) write.time write.crash write.told.1 c.in_ok-write_at-2.ensures.written;
     }
 
 pub returns-clause-any_moment : goal.returns-clause-any_moment

@@ -1,9 +1,8 @@
-use Rattle.std.proofs.Common.{◌≡◌, ◌≤◌, List, ℕ}
-use Rattle.std.specs.Prelude.{◌↔◌}
-use Rattle.seg_base.specs.declared.shape.Shape.{Shape}
+use Rattle.std.proofs.Common.{◌≡◌, ◌≤◌, List, ℕ, ◌↔◌}
+use Rattle.seg_words.specs.Types.{Shape}
 use Rattle.disk_model.specs.declared.disk.File.TheVariants.{Data}
-use Rattle.disk_model.proofs.Runs.{Running}
-use Rattle.page_store.specs.Batches.{IsStore}
+use Rattle.disk_model.proofs.Lemmas.{Running}
+use Rattle.page_store.specs.Types.{IsStore}
 use Rattle.page_store.proofs.Changes.{Stays}
 use Rattle.page_store.proofs.Stages.{BesideArea}
 use Rattle.page_store.proofs.Moves.{Copying}

@@ -1,7 +1,7 @@
 use Rattle.std.proofs.Common.{◌∙◌, refl, arith, ℕ, List}
 use Rattle.disk_model.specs.declared.disk.File.TheVariants.{Data}
-use Rattle.disk_model.proofs.Runs.{run_synced, run_settles}
-use Rattle.page_store.specs.Steps.{InPlace}
+use Rattle.disk_model.proofs.Lemmas.{run_synced, run_settles}
+use Rattle.page_store.specs.Types.{InPlace}
 use Rattle.page_store.proofs.Changes.{Stays}
 use Rattle.page_store.proofs.Stages.{BesideBatch}
 use Rattle.page_store.proofs.Moves.{places_started, place_write, place_more, places_leave, places_settle}

@@ -1,10 +1,9 @@
-use Rattle.std.proofs.Common.{◌≡◌, ◌≤◌, List, ℕ}
-use Rattle.std.specs.Prelude.{◌↔◌}
-use Rattle.seg_base.specs.declared.shape.Shape.{Shape}
-use Rattle.disk_model.specs.Only.{IsSettled}
+use Rattle.std.proofs.Common.{◌≡◌, ◌≤◌, List, ℕ, ◌↔◌}
+use Rattle.seg_words.specs.Types.{Shape}
+use Rattle.disk_model.specs.Types.{IsSettled}
 use Rattle.disk_model.specs.declared.disk.File.TheVariants.{Data}
-use Rattle.disk_model.proofs.Runs.{Running}
-use Rattle.page_store.specs.Steps.{InPlace, IsOpened}
+use Rattle.disk_model.proofs.Lemmas.{Running}
+use Rattle.page_store.specs.Types.{InPlace, IsOpened}
 use Rattle.page_store.proofs.Changes.{Stays}
 use Rattle.page_store.proofs.Stages.{BesideBatch}
 use Rattle.page_store.proofs.writing.write_places.Given as goal

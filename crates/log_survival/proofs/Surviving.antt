@@ -1,17 +1,11 @@
 -- How what survives goes on.
-use Rattle.std.proofs.Common.{◌≡◌, inl, inr, ℕ, ◌<◌, ◌≤◌, Bool, true, false, List, [], ◌∷◌, ◌++◌, length, refl, sym, ◌∙◌, ap, subst, arith, length-append}
-use Rattle.std.specs.Prelude.{nat_le, if◌then◌else◌}
-use Rattle.std.proofs.lemmas.List.{take-append-le, take_all}
-use Rattle.std.proofs.lemmas.Bool.{cases_lt, le-leb}
-use Rattle.std.proofs.lemmas.Bool.Decides.{nat_tests}
-use Rattle.seg_base.specs.declared.shape.Shape.{Shape}
-use Rattle.disk_model.specs.Files.{Files}
-use Rattle.disk_model.specs.Crash.{Meaning, Now, Leaves, Untouched}
-use Rattle.disk_model.specs.Only.{OnlyFile}
+use Rattle.std.proofs.Common.{◌≡◌, inl, inr, ℕ, ◌<◌, ◌≤◌, Bool, true, false, List, [], ◌∷◌, ◌++◌, length, refl, sym, ◌∙◌, ap, subst, arith, length-append, nat_le, if◌then◌else◌, take_all, le-leb}
+use Rattle.seg_words.proofs.Lemmas.{take-append-le, cases_lt, nat_tests}
+use Rattle.seg_words.specs.Types.{Shape}
+use Rattle.disk_model.specs.Types.{Files, Meaning, Now, Leaves, Untouched, OnlyFile}
 use Rattle.disk_model.specs.declared.disk.File.TheVariants.{Log}
-use Rattle.disk_model.proofs.Keeping.{always_run, always_same}
-use Rattle.log_frame.specs.Spelling.{IsLog, WithOrWithout}
-use Rattle.log_frame.specs.Ready.{IsReady}
+use Rattle.disk_model.proofs.Lemmas.{always_run, always_same}
+use Rattle.log_frame.specs.Types.{IsLog, WithOrWithout, IsReady}
 use Rattle.log_survival.specs.Survives.{needed_by, HasGroups, Survives, AreMade}
 use Rattle.log_survival.specs.declared.acknowledged.Acknowledged.{Acknowledged}
 

@@ -1,9 +1,8 @@
 -- What was acknowledged survives each crash from then on.
 use Rattle.std.specs.Prelude.{◌≡◌, ℕ, ◌≤◌, nat_le, if◌then◌else◌, List, [], ◌∷◌, length, take}
-use Rattle.seg_base.specs.declared.shape.Shape.{Shape}
-use Rattle.disk_model.specs.Files.{Files}
-use Rattle.disk_model.specs.Crash.{Meaning, Always}
-use Rattle.log_frame.specs.Spelling.{IsLog}
+use Rattle.seg_words.specs.Types.{Shape}
+use Rattle.disk_model.specs.Types.{Files, Meaning, Always}
+use Rattle.log_frame.specs.Types.{IsLog}
 use Rattle.log_survival.specs.declared.acknowledged.Acknowledged.{Acknowledged}
 
 -- the groups that were acknowledged by a moment, of those that were, the newest first

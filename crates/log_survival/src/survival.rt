@@ -1,12 +1,9 @@
 // Each call that a writer of groups makes, with what survives it.
 ghost use Rattle.std.specs.Prelude.{◌≡◌, ◌↔◌, ◌≤◌, ◌++◌, [], ◌∷◌, ℕ, List, length, OnOk, OnErr, IfErr, IsErr};
-ghost use Rattle.seg_base.specs.declared.shape.Shape.{Shape};
-ghost use Rattle.disk_model.specs.Crash.{Leaves, Causes, Untouched};
-ghost use Rattle.disk_model.specs.Only.{OnlyFile};
+ghost use Rattle.seg_words.specs.Types.{Shape};
+ghost use Rattle.disk_model.specs.Types.{Leaves, Causes, Untouched, OnlyFile};
 ghost use Rattle.disk_model.specs.declared.disk.File.TheVariants.{Log};
-ghost use Rattle.log_frame.specs.Frame.{IsPayload};
-ghost use Rattle.log_frame.specs.Ready.{IsReady, Leads};
-ghost use Rattle.log_frame.specs.Spelling.{WithOrWithout};
+ghost use Rattle.log_frame.specs.Types.{IsPayload, IsReady, Leads, WithOrWithout};
 ghost use Rattle.log_survival.specs.Survives.{Survives, AreMade};
 ghost use Rattle.log_survival.specs.declared.acknowledged.Acknowledged.{Acknowledged};
 

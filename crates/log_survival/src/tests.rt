@@ -2,7 +2,7 @@
 use crate::{Acknowledged, acknowledge, append, begin, looked};
 use disk_model::{Disk, Memory};
 use log_frame::{make_head, open};
-use seg_base::Shape;
+use seg_base::{FIRST_GATE, Shape};
 use std::test::Fail;
 
 #[test]
@@ -14,7 +14,7 @@ fn a_group_is_added_and_acknowledged(rt: HostRuntime) -> Result<(), Fail> {
     };
     let mut disk = Memory::new(rt.alloc(), b"", b"", &[])?;
     make_head(&mut disk, &shape)?;
-    let mut log = open(&mut disk, 63)?;
+    let mut log = open(&mut disk, FIRST_GATE)?;
     let since = begin(&disk);
     assert_eq!(rt; since, disk.moment());
     append(&mut log, &mut disk, b"one")?;

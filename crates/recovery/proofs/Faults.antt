@@ -1,7 +1,7 @@
 -- A fault of the log, handed on.
 use Rattle.std.proofs.Common.{◌≡◌, ℕ, Err}
-use Rattle.disk_model.specs.Files.{Files}
-use Rattle.log_frame.specs.Found.{IsHeadFound, IsOpening, Answers as AnswersFrame}
+use Rattle.disk_model.specs.Types.{Files}
+use Rattle.log_frame.specs.Types.{IsHeadFound, IsOpening, Answers as AnswersFrame}
 use Rattle.log_frame.specs.declared.fault.FrameFault.{FrameFault}
 use Rattle.recovery.specs.declared.fault.OpenFault.TheVariants.{AlreadyFormatted}
 use Rattle.recovery.specs.Store.{IsShapeFound, IsLogOpened, Answers, fault_of}

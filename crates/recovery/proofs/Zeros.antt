@@ -1,14 +1,9 @@
 -- Zeros that are written in pieces, over plain disks.
 use Rattle.std.proofs.Common.{◌≡◌, ℕ, ◌+◌, ◌-◌, ◌≤◌, List, [], ◌++◌, length, take, replicate, sym, ◌∙◌, ap, subst, arith}
 use Rattle.seg_words.proofs.Lemmas.{length-replicate, replicate-append-replicate, take-replicate}
-use Rattle.disk_model.specs.Files.{Files, put, written, Torn, TornFile}
-use Rattle.disk_model.specs.Crash.{Meaning, Now, Elapses}
-use Rattle.disk_model.specs.Only.{IsSettled}
-use Rattle.disk_model.specs.AsRead.{torn_same, torn_written}
+use Rattle.disk_model.specs.Types.{Files, put, written, Torn, TornFile, Meaning, Now, Elapses, IsSettled, torn_same, torn_written}
 use Rattle.disk_model.specs.declared.disk.File.TheVariants.{Data}
-use Rattle.disk_model.proofs.OneFile.{So, so_started}
-use Rattle.disk_model.proofs.Rows.{torn_wider}
-use Rattle.disk_model.proofs.WriteAndSync.{next_write, next_made}
+use Rattle.disk_model.proofs.Lemmas.{So, so_started, torn_wider, next_write, next_made}
 
 module _ {D : Type 0} (meaning : Meaning D) (d0 : D) (total : ℕ) where
   abbrev pub old : List ℕ

@@ -1,12 +1,9 @@
 -- A store that was just made.
 use Rattle.seg_words.specs.Types.{BLOCK_SIZE, LOG_HEAD_SIZE, Shape}
 use Rattle.std.specs.Prelude.{◌≡◌, ◌⊎◌, ℕ, ◌*◌, ◌<◌, ◌≤◌, true, false, List, [], length, take, replicate, Result, Ok, Err}
-use Rattle.disk_model.specs.Files.{Files}
-use Rattle.disk_model.specs.Crash.{Meaning, Now}
+use Rattle.disk_model.specs.Types.{Files, Meaning, Now}
 use Rattle.disk_model.specs.declared.disk.File.TheVariants.{Data, Log}
-use Rattle.log_frame.specs.Head.{is_formatted, shape_found}
-use Rattle.log_frame.specs.Found.{wrong, Walked}
-use Rattle.log_frame.specs.Spelling.{IsLog}
+use Rattle.log_frame.specs.Types.{is_formatted, shape_found, wrong, Walked, IsLog}
 use Rattle.log_frame.specs.declared.fault.FrameFault.{FrameFault}
 use Rattle.recovery.specs.declared.fault.OpenFault.{OpenFault}
 use Rattle.recovery.specs.declared.fault.OpenFault.TheVariants.{DeviceFault, NotFormatted, BadFile, AlreadyFormatted, NoMemory}

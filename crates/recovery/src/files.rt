@@ -1,12 +1,9 @@
 // The two files of a store as they are opened.
 ghost use Rattle.std.specs.Prelude.{◌≡◌, ◌+◌, ◌++◌, ℕ, List, length, IsErrOf};
 ghost use Rattle.seg_words.specs.Types.{Shape};
-ghost use Rattle.disk_model.specs.Crash.{Causes, Untouched};
-ghost use Rattle.disk_model.specs.Only.{IsSettled};
+ghost use Rattle.disk_model.specs.Types.{Causes, Untouched, IsSettled};
 ghost use Rattle.disk_model.specs.declared.disk.File.TheVariants.{Log};
-ghost use Rattle.log_frame.specs.Frame.{frames};
-ghost use Rattle.log_frame.specs.Spelling.{IsLog};
-ghost use Rattle.log_frame.specs.Ready.{IsReady};
+ghost use Rattle.log_frame.specs.Types.{frames, IsLog, IsReady};
 ghost use Rattle.recovery.specs.Store.{data_size, IsStore, IsShapeFound, IsLogOpened, Answers};
 
 use crate::OpenFault;

@@ -1,12 +1,10 @@
 // Both files of a new store. The head's gate is opened last.
 ghost use Rattle.std.specs.Prelude.{◌≡◌, ◌↔◌, ◌+◌, ◌-◌, ◌^◌, ◌<◌, ◌≤◌, ℕ, length, replicate, OnOk, IfErr, IsErr, IsErrOf, false, true};
-ghost use Rattle.disk_model.specs.Files.{Files, content, written, Torn};
-ghost use Rattle.disk_model.specs.Crash.{Leaves, Causes, Untouched};
-ghost use Rattle.seg_words.specs.Types.{is_shape};
-ghost use Rattle.log_frame.specs.Head.{is_formatted};
-ghost use Rattle.recovery.specs.Store.{FormatAnswers, IsDurable, IsEmptyStore, IsFormatFault, NoneOrEmpty};
-ghost use Rattle.disk_model.specs.Only.{OnlyFile, IsSettled, IsPut};
+ghost use Rattle.disk_model.specs.Types.{Files, content, written, Torn, Leaves, Causes, Untouched, OnlyFile, IsSettled, IsPut};
 ghost use Rattle.disk_model.specs.declared.disk.File.TheVariants.{Data, Log};
+ghost use Rattle.seg_words.specs.Types.{is_shape};
+ghost use Rattle.log_frame.specs.Types.{is_formatted};
+ghost use Rattle.recovery.specs.Store.{FormatAnswers, IsDurable, IsEmptyStore, IsFormatFault, NoneOrEmpty};
 
 use crate::OpenFault;
 use disk_model::{Disk, File};

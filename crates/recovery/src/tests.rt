@@ -2,7 +2,7 @@
 use crate::{OpenFault, format, open_log, read_head};
 use disk_model::{Disk, File, Memory, Stopping, Tear};
 use log_frame::{FrameFault, read_shape};
-use seg_base::Shape;
+use seg_base::{FIRST_GATE, Shape};
 use std::test::Fail;
 
 const SHAPE: Shape = Shape {
@@ -48,7 +48,7 @@ fn files_are_tested_in_their_order(rt: HostRuntime) -> Result<(), Fail> {
     assert_eq!(rt; read_head(&mut whole), Err(OpenFault::NotFormatted));
     assert_eq!(rt; format(&mut whole, SHAPE), Ok(()));
     assert_eq!(rt; read_head(&mut whole), Ok(SHAPE));
-    assert_eq!(rt; open_log(&mut whole, 63)?.end(), 63);
+    assert_eq!(rt; open_log(&mut whole, FIRST_GATE)?.end(), FIRST_GATE);
     let mut short = Memory::new(alloc, b"abc", whole.bytes(File::Log), &[])?;
     let data_ends = OpenFault::BadFile {
         file: File::Data,

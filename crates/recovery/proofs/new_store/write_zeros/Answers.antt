@@ -1,6 +1,7 @@
 use Rattle.std.proofs.Common.{◌≡◌, ◌+◌, ◌≤◌, ℕ, replicate, ◌∙◌, subst, arith}
-use Rattle.disk_model.proofs.WriteAndSync.{after_sync, is_put}
+use Rattle.disk_model.proofs.Lemmas.{after_sync, is_put}
 use Rattle.disk_model.specs.declared.disk.File.TheVariants.{Data}
+use Rattle.recovery.specs.declared.new_store.TheConstants.{PIECE}
 use Rattle.recovery.proofs.Zeros.{Zeroed, zero_torn, zero_more, zeros_of, torn_zeros}
 use Rattle.recovery.proofs.new_store.write_zeros.Goals as goal
 
@@ -8,7 +9,7 @@ pub returns-in_err-write_at-clause-any_moment : goal.returns-in_err-write_at-cla
 returns-in_err-write_at-clause-any_moment g c settled =
     let meaning = g.D.Disk.meaning in
     let size = c.min-size.result in
-    let same = zeros_of meaning c.args.disk.now c.args.total size 65536 (omega (arith, c.min-size.ensures)) in
+    let same = zeros_of meaning c.args.disk.now c.args.total size PIECE (omega (arith, c.min-size.ensures)) in
     (zero_torn meaning c.args.disk.now c.args.total c.pieces.done size c.pieces.disk c.write_at.new.self _ same (omega (arith, c.pieces-test.true, c.min-size.ensures)) (c.pieces.invariant.zeroed settled) c.write_at.ensures.time c.write_at.ensures.crash).leaves
 
 pub pieces-preserved : goal.pieces-preserved
@@ -24,7 +25,7 @@ pieces-preserved g c =
       reads = write.reads ∙ kept.reads;
       within = le;
       zeroed = λ settled.
-          let same = zeros_of meaning c.args.disk.now c.args.total size 65536 (omega (arith, c.min-size.ensures)) in
+          let same = zeros_of meaning c.args.disk.now c.args.total size PIECE (omega (arith, c.min-size.ensures)) in
           zero_more meaning c.args.disk.now c.args.total c.pieces.done size c.pieces.disk c.write_at.new.self _ same le (kept.zeroed settled) write.time write.crash (c.in_ok-write_at.ensures.written (kept.told.1 settled.told));
     }
 

@@ -1,5 +1,5 @@
 use Rattle.std.proofs.Common.{◌≡◌, ◌-◌, ◌≤◌, ◌↔◌}
-use Rattle.disk_model.specs.Only.{IsSettled}
+use Rattle.disk_model.specs.Types.{IsSettled}
 use Rattle.disk_model.specs.declared.disk.File.TheVariants.{Data}
 use Rattle.recovery.proofs.Zeros.{Zeroed}
 use Rattle.recovery.proofs.new_store.write_zeros.Given as goal

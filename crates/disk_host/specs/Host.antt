@@ -1,6 +1,6 @@
 -- What two real files mean: they tell nothing of what they hold, only their clock and their count of faults.
 use Rattle.std.specs.Prelude.{◌≡◌, ℕ, []}
-use Rattle.disk_model.specs.Crash.{Meaning}
+use Rattle.disk_model.specs.Types.{Meaning}
 
 -- of any disk with these two numbers
 abbrev pub untold : {D : Type 0} → (D → ℕ) → (D → ℕ) → Meaning D

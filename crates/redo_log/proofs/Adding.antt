@@ -1,16 +1,11 @@
 -- Records that are added, and records that become stable.
-use Rattle.std.proofs.Common.{◌≡◌, ◌⊎◌, inl, inr, ℕ, suc, ◌+◌, ◌-◌, ◌^◌, ◌≤◌, min, List, [], ◌∷◌, ◌++◌, length, refl, sym, ap, subst, ◌∙◌, append_assoc, arith}
-use Rattle.std.proofs.lemmas.List.{length-append}
-use Rattle.std.specs.Prelude.{Result, Ok, Err, OnOk}
-use Rattle.seg_base.specs.declared.shape.Shape.{Shape}
-use Rattle.disk_model.specs.Crash.{Meaning, Leaves}
-use Rattle.disk_model.specs.Only.{OnlyFile}
+use Rattle.std.proofs.Common.{◌≡◌, ◌⊎◌, inl, inr, ℕ, suc, ◌+◌, ◌-◌, ◌^◌, ◌≤◌, min, List, [], ◌∷◌, ◌++◌, length, refl, sym, ap, subst, ◌∙◌, append_assoc, arith, length-append, Result, Ok, Err, OnOk}
+use Rattle.seg_words.specs.Types.{Shape}
+use Rattle.disk_model.specs.Types.{Meaning, Leaves, OnlyFile}
 use Rattle.disk_model.specs.declared.disk.File.TheVariants.{Log}
-use Rattle.disk_model.proofs.Going.{weaker, started}
-use Rattle.disk_model.proofs.OneFile.{only_weaker, put_content}
+use Rattle.disk_model.proofs.Lemmas.{weaker, started, only_weaker, put_content}
+use Rattle.log_frame.specs.Types.{IsReady, Leads, IsLog, WithOrWithout}
 use Rattle.log_frame.specs.declared.fault.FrameFault.{FrameFault}
-use Rattle.log_frame.specs.Ready.{IsReady, Leads}
-use Rattle.log_frame.specs.Spelling.{IsLog, WithOrWithout}
 use Rattle.log_survival.specs.declared.acknowledged.Acknowledged.{Acknowledged}
 use Rattle.redo_record.specs.declared.record.Record.{Record}
 use Rattle.redo_record.specs.Spelling.{spelling}

@@ -1,7 +1,6 @@
 -- The bytes of whole records split in one way.
-use Rattle.std.proofs.Common.{◌≡◌, ℕ, suc, ◌+◌, ◌<◌, ◌≤◌, List, [], ◌∷◌, ◌++◌, length, take, drop, reverse, refl, sym, ◌∙◌, ap, subst, arith, append_assoc, length-append}
-use Rattle.std.proofs.lemmas.List.{append-nil, reverse-append, take-append-drop, drop_at, drop-drop, length-drop}
-use Rattle.std.proofs.lemmas.List.Concat.{flat_map-append, flat_map-cons}
+use Rattle.std.proofs.Common.{◌≡◌, ℕ, suc, ◌+◌, ◌<◌, ◌≤◌, List, [], ◌∷◌, ◌++◌, length, take, drop, reverse, refl, sym, ◌∙◌, ap, subst, arith, append_assoc, length-append, append-nil, take-append-drop, drop_at, drop-drop, length-drop}
+use Rattle.seg_words.proofs.Lemmas.{reverse-append, flat_map-append, flat_map-cons}
 use Rattle.redo_record.specs.declared.record.Record.{Record}
 use Rattle.redo_record.specs.Spelling.{spelling}
 use Rattle.redo_record.specs.Spelled.{HasSpelling}

@@ -1,7 +1,6 @@
 -- One record more of a payload.
-use Rattle.std.proofs.Common.{◌≡◌, ℕ, suc, ◌+◌, ◌-◌, ◌<◌, ◌≤◌, List, [], ◌∷◌, ◌++◌, length, take, drop, reverse, slice_index, refl, sym, ◌∙◌, ap, arith, length-append}
-use Rattle.std.proofs.Math.Seq.{take-add}
-use Rattle.std.proofs.lemmas.List.{reverse-append, take_all, take_at, length-drop}
+use Rattle.std.proofs.Common.{◌≡◌, ℕ, suc, ◌+◌, ◌-◌, ◌<◌, ◌≤◌, List, [], ◌∷◌, ◌++◌, length, take, drop, reverse, slice_index, refl, sym, ◌∙◌, ap, arith, length-append, take-add, take_all, take_at, length-drop}
+use Rattle.seg_words.proofs.Lemmas.{reverse-append}
 use Rattle.redo_record.specs.declared.record.Record.{Record}
 use Rattle.redo_record.specs.Spelling.{spelling}
 use Rattle.redo_record.specs.Decoding.{StandsAt}

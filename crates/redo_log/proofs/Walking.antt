@@ -1,14 +1,11 @@
 -- A walk over groups of whole records.
-use Rattle.std.proofs.Common.{◌≡◌, ◌≢◌, inl, inr, ℕ, suc, ◌+◌, ◌-◌, ◌^◌, ◌<◌, ◌≤◌, min, List, [], ◌∷◌, ◌++◌, length, take, drop, slice_index, reverse, true, false, Bool, refl, sym, ◌∙◌, ap, subst, arith, length-append, append_assoc}
+use Rattle.std.proofs.Common.{◌≡◌, ◌≢◌, inl, inr, ℕ, suc, ◌+◌, ◌-◌, ◌^◌, ◌<◌, ◌≤◌, min, List, [], ◌∷◌, ◌++◌, length, take, drop, slice_index, reverse, true, false, Bool, refl, sym, ◌∙◌, ap, subst, arith, length-append, append_assoc, Some, None, Result, Ok, Err, append-nil, length-take, length-drop}
 use Rattle.std.specs.Global.{Vec}
-use Rattle.std.specs.Prelude.{Some, None, Result, Ok, Err}
-use Rattle.std.proofs.lemmas.List.{length-reverse, append-nil, length-take, length-drop}
-use Rattle.log_frame.specs.Head.{is_formatted}
-use Rattle.log_frame.specs.Frame.{size_found}
-use Rattle.log_frame.specs.Found.{wrong}
-use Rattle.log_frame.specs.Reading.{Reading, payload_read, Covers, Passes, IsAdvance, IsBegun}
+use Rattle.seg_words.proofs.Lemmas.{length-reverse}
+use Rattle.log_frame.specs.Types.{is_formatted, size_found, wrong, Reading, payload_read, Covers, Passes, IsAdvance, IsBegun}
 use Rattle.log_frame.specs.declared.fault.WrongByte.{WrongByte}
 use Rattle.log_frame.specs.declared.fault.FrameFault.{FrameFault}
+use Rattle.log_frame.specs.declared.log.TheConstants.{GROUP_HEAD_SIZE}
 use Rattle.log_frame.specs.declared.fault.FrameFault.TheVariants as frames
 use Rattle.log_frame.proofs.Spelled.{open_inside}
 use Rattle.redo_record.specs.declared.record.Record.{Record}
@@ -19,13 +16,13 @@ use Rattle.redo_log.specs.Found.{IsMore, IsAdded, WalkEnds, WalkBreaks, Stops, I
 use Rattle.redo_log.specs.declared.fault.LogFault.{LogFault}
 use Rattle.redo_log.specs.declared.fault.LogFault.TheVariants.{DeviceFault, NotOpen, BadLog, NoMemory}
 
-between_more : (file : List ℕ) (from gate : ℕ) (groups : List (List ℕ)) (group : List ℕ) → Between file from groups gate → size_found file gate ≡ Ok (Some (length group)) → take (length group) (drop (gate + 5) file) ≡ group → Between file from (groups ++ group ∷ []) (gate + 5 + length group)
+between_more : (file : List ℕ) (from gate : ℕ) (groups : List (List ℕ)) (group : List ℕ) → Between file from groups gate → size_found file gate ≡ Ok (Some (length group)) → take (length group) (drop (gate + GROUP_HEAD_SIZE) file) ≡ group → Between file from (groups ++ group ∷ []) (gate + GROUP_HEAD_SIZE + length group)
 between_more file from gate [] group at found same = (
   ap (size_found file) (sym at) ∙ found,
-  ap (λ (n : ℕ). take (length group) (drop (n + 5) file)) (sym at) ∙ same,
-  ap (λ (n : ℕ). n + 5 + length group) at,
+  ap (λ (n : ℕ). take (length group) (drop (n + GROUP_HEAD_SIZE) file)) (sym at) ∙ same,
+  ap (λ (n : ℕ). n + GROUP_HEAD_SIZE + length group) at,
 )
-between_more file from gate (g ∷ groups) group (f, s, rest) found same = (f, s, between_more file (from + 5 + length g) gate groups group rest found same)
+between_more file from gate (g ∷ groups) group (f, s, rest) found same = (f, s, between_more file (from + GROUP_HEAD_SIZE + length g) gate groups group rest found same)
 
 pub holds_more : (groups : List (List ℕ)) (R0 R newer : List Record) (payload : List ℕ) → Holds groups R0 R → payload ≡ spelled newer → AreSpelled newer → Holds (groups ++ payload ∷ []) R0 (newer ++ R)
 holds_more [] R0 R newer payload h e s = (newer, e, s, ap (λ (x : List Record). newer ++ x) h)
@@ -38,7 +35,7 @@ no_group file from R0 = record { groups = []; between = refl; holds = refl }
 payload_long : (file : List ℕ) (gate : ℕ) (r : Reading) → Passes file gate r → length (payload_read r) ≡ r.size
 payload_long file gate r passes =
     let inside = (open_inside file gate r.size passes.found).1 in
-    omega (arith, ap (λ (l : List ℕ). length l) passes.payload, length-take r.size (drop (gate + 5) file), length-drop (gate + 5) file, inside)
+    omega (arith, ap (λ (l : List ℕ). length l) passes.payload, length-take r.size (drop (gate + GROUP_HEAD_SIZE) file), length-drop (gate + GROUP_HEAD_SIZE) file, inside)
 
 pub one_group : (file : List ℕ) (from gate : ℕ) (r : Reading) (R0 R new : List Record) → Walked file from gate R0 R → Passes file gate r → IsMore (payload_read r) [] new → Walked file from r.next R0 (new ++ R)
 one_group file from gate r R0 R new walked passes more =
@@ -48,7 +45,7 @@ one_group file from gate r R0 R new walked passes more =
     record {
       groups = walked.groups ++ group ∷ [];
       between = subst (λ (n : ℕ). Between file from (walked.groups ++ group ∷ []) n) (omega (arith, passes.next, long))
-          (between_more file from gate walked.groups group walked.between (passes.found ∙ ap (λ (n : ℕ). Ok (Some n)) (sym long)) (ap (λ (n : ℕ). take n (drop (gate + 5) file)) long ∙ sym passes.payload));
+          (between_more file from gate walked.groups group walked.between (passes.found ∙ ap (λ (n : ℕ). Ok (Some n)) (sym long)) (ap (λ (n : ℕ). take n (drop (gate + GROUP_HEAD_SIZE) file)) long ∙ sym passes.payload));
       holds = subst (λ (l : List Record). Holds (walked.groups ++ group ∷ []) R0 (l ++ R)) (sym same) (holds_more walked.groups R0 R more.newer group walked.holds more.whole more.spells);
     }
 

@@ -1,9 +1,7 @@
 -- What an answer says of the bytes of the log.
 use Rattle.std.specs.Prelude.{◌≡◌, ℕ, ◌+◌, true, false, List, [], ◌++◌, reverse, slice_index, None, Result, Ok, Err}
 use Rattle.std.specs.Global.{Vec}
-use Rattle.log_frame.specs.Head.{is_formatted}
-use Rattle.log_frame.specs.Frame.{size_found}
-use Rattle.log_frame.specs.Found.{wrong}
+use Rattle.log_frame.specs.Types.{is_formatted, size_found, wrong}
 use Rattle.redo_record.specs.declared.record.Record.{Record}
 use Rattle.redo_log.specs.Kept.{Kept, spelled, AreSpelled, last_number, Holds, HasList}
 use Rattle.redo_log.specs.Groups.{Between, Walked, Breaks, IsWrong}

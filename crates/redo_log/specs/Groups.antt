@@ -1,7 +1,8 @@
 -- Groups of whole records.
 use Rattle.std.specs.Prelude.{◌≡◌, ◌⊎◌, ℕ, ◌+◌, ◌<◌, List, [], ◌∷◌, ◌++◌, length, take, drop, slice_index, Some, None, Result, Ok, Err}
-use Rattle.log_frame.specs.Frame.{size_found}
+use Rattle.log_frame.specs.Types.{size_found}
 use Rattle.log_frame.specs.declared.fault.WrongByte.{WrongByte}
+use Rattle.log_frame.specs.declared.log.TheConstants.{GROUP_HEAD_SIZE}
 use Rattle.redo_record.specs.declared.record.Record.{Record}
 use Rattle.redo_record.specs.Decoding.{StandsAt}
 use Rattle.redo_log.specs.Kept.{spelled, AreSpelled, Holds}
@@ -9,7 +10,7 @@ use Rattle.redo_log.specs.Kept.{spelled, AreSpelled, Holds}
 -- from a gate on these groups stand behind open gates, and then comes this gate
 abbrev pub Between : List ℕ → ℕ → List (List ℕ) → ℕ → Type 0
 Between file from [] at = at ≡ from
-Between file from (group ∷ groups) at = (size_found file from ≡ Ok (Some (length group))) × (take (length group) (drop (from + 5) file) ≡ group) × Between file (from + 5 + length group) groups at
+Between file from (group ∷ groups) at = (size_found file from ≡ Ok (Some (length group))) × (take (length group) (drop (from + GROUP_HEAD_SIZE) file) ≡ group) × Between file (from + GROUP_HEAD_SIZE + length group) groups at
 
 -- from a gate to another stand groups of whole records, which lead from R0 to R
 pub record Walked (file : List ℕ) (from at : ℕ) (R0 R : List Record) : Type 0 where
@@ -30,9 +31,9 @@ pub record BadPayload (file : List ℕ) (gate : ℕ) (wrong : WrongByte) : Type 
   pub size : ℕ
   pub framed : size_found file gate ≡ Ok (Some size)
   pub place : ℕ
-  pub breaks : Breaks (take size (drop (gate + 5) file)) place
-  pub offset : wrong.offset ≡ gate + 5 + place
-  pub seen : wrong.seen ≡ slice_index (take size (drop (gate + 5) file)) place
+  pub breaks : Breaks (take size (drop (gate + GROUP_HEAD_SIZE) file)) place
+  pub offset : wrong.offset ≡ gate + GROUP_HEAD_SIZE + place
+  pub seen : wrong.seen ≡ slice_index (take size (drop (gate + GROUP_HEAD_SIZE) file)) place
 
 -- what is wrong first at a gate: its frame before its payload
 abbrev pub IsWrong : List ℕ → ℕ → WrongByte → Type 0

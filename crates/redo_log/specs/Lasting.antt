@@ -1,11 +1,10 @@
 -- What survives a crash while records become stable.
 use Rattle.std.specs.Prelude.{◌≡◌, ◌⊎◌, ℕ, List, [], ◌∷◌, length}
-use Rattle.seg_base.specs.declared.shape.Shape.{Shape}
-use Rattle.disk_model.specs.Crash.{Meaning}
-use Rattle.log_frame.specs.Spelling.{IsLog}
+use Rattle.seg_words.specs.Types.{Shape}
+use Rattle.disk_model.specs.Types.{Meaning}
+use Rattle.log_frame.specs.Types.{IsLog, IsReady}
 use Rattle.log_survival.specs.Survives.{Survives, AreMade}
 use Rattle.log_survival.specs.declared.acknowledged.Acknowledged.{Acknowledged}
-use Rattle.log_frame.specs.Ready.{IsReady}
 use Rattle.redo_record.specs.declared.record.Record.{Record}
 use Rattle.redo_log.specs.Kept.{Kept, HasList, with_group}
 

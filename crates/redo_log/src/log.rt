@@ -1,12 +1,9 @@
 // The list of records over the log file.
 ghost use Rattle.std.specs.Prelude.{◌≡◌, ◌↔◌, ◌++◌, ◌+◌, ◌-◌, ◌∷◌, [], ◌≤◌, ◌<◌, ◌^◌, List, ℕ, min, suc, length, IfOk, IfErr, OnOk, OnErr, IsErr, IsErrOf};
-ghost use Rattle.seg_base.specs.declared.shape.Shape.{Shape};
-ghost use Rattle.disk_model.specs.Crash.{Causes, Leaves, Untouched};
-ghost use Rattle.disk_model.specs.Only.{OnlyFile};
+ghost use Rattle.seg_words.specs.Types.{Shape};
+ghost use Rattle.disk_model.specs.Types.{Causes, Leaves, Untouched, OnlyFile};
 ghost use Rattle.disk_model.specs.declared.disk.File.TheVariants.{Log};
-ghost use Rattle.log_frame.specs.Frame.{IsPayload};
-ghost use Rattle.log_frame.specs.Ready.{IsReady, Leads};
-ghost use Rattle.log_frame.specs.Spelling.{WithOrWithout};
+ghost use Rattle.log_frame.specs.Types.{IsPayload, IsReady, Leads, WithOrWithout};
 ghost use Rattle.log_survival.specs.declared.acknowledged.Acknowledged.{Acknowledged};
 ghost use Rattle.redo_record.specs.declared.record.Record.{Record};
 ghost use Rattle.redo_record.specs.declared.record.Record.TheVariants.{Commit};
@@ -18,7 +15,7 @@ ghost use Rattle.redo_log.specs.Found.{IsReadFrom};
 use crate::LogFault;
 use crate::fault::of_frame;
 use crate::opening::{number_after, read_from};
-use crate::waiting::{Waiting, commit_bytes};
+use crate::waiting::{COMMIT_SIZE, Waiting, commit_bytes};
 use disk_model::Disk;
 use log_frame::{FrameFault, LogFile};
 use redo_record::{CommitRecord, Record, encode};
@@ -48,7 +45,7 @@ impl RedoLog {
     // A log that was opened, of which so many records are on the disk and none waits.
     pub(crate) fn over(alloc: Global, file: LogFile, count: Lsn) -> Result<RedoLog, NoMemory>
         ensures end { IfOk result (λ log. log.end ≡ file) }
-        ensures room { IfOk result (λ log. 18 ≤ log.waiting.room) }
+        ensures room { IfOk result (λ log. COMMIT_SIZE ≤ log.waiting.room) }
         ensures stable { IfOk result (λ log. log.stable ≡ count) }
         ensures count { IfOk result (λ log. log.count ≡ count) }
         ensures none { IfOk result (λ log. log.waiting.bytes ≡ []) }
@@ -97,7 +94,7 @@ impl RedoLog {
     pub fn append(&mut self, rec: &Record) -> Result<Lsn, NoMemory>
         ensures added { (groups : List (List ℕ)) (R0 R : List Record) → HasList groups R0 R self.old → HasSpelling rec.now → OnOk result (HasList groups R0 (rec.now ∷ R) self.new) }
         ensures number { IfOk result (λ lsn. lsn ≡ self.new.count) }
-        ensures room { OnOk result (18 ≤ self.new.waiting.room) }
+        ensures room { OnOk result (COMMIT_SIZE ≤ self.new.waiting.room) }
         ensures end { OnOk result (self.new.end ≡ self.old.end) }
         ensures stable { OnOk result (self.new.stable ≡ self.old.stable) }
         ensures refused { OnErr result (Stays self.old self.new) }
@@ -114,7 +111,7 @@ impl RedoLog {
     pub fn append_pair(&mut self, first: &Record, second: &Record) -> Result<Lsn, NoMemory>
         ensures added { (groups : List (List ℕ)) (R0 R : List Record) → HasList groups R0 R self.old → HasSpelling first.now → HasSpelling second.now → OnOk result (HasList groups R0 (second.now ∷ first.now ∷ R) self.new) }
         ensures number { IfOk result (λ lsn. lsn ≡ self.new.count) }
-        ensures room { OnOk result (18 ≤ self.new.waiting.room) }
+        ensures room { OnOk result (COMMIT_SIZE ≤ self.new.waiting.room) }
         ensures end { OnOk result (self.new.end ≡ self.old.end) }
         ensures stable { OnOk result (self.new.stable ≡ self.old.stable) }
         ensures refused { OnErr result (Stays self.old self.new) }
@@ -130,7 +127,7 @@ impl RedoLog {
     /// Adds a Commit, and answers its number. It takes no memory: room for one is always kept.
     #[tactic(auto, using(crate::proofs::Adding::one_more))]
     pub fn append_commit(&mut self, txn: TxnId, number: Scn, entry: u8) -> Lsn
-        requires { 18 ≤ self.old.waiting.room }
+        requires { COMMIT_SIZE ≤ self.old.waiting.room }
         ensures added { (groups : List (List ℕ)) (R0 R : List Record) → HasList groups R0 R self.old → HasList groups R0 (Commit (record { txn = txn; number = number; entry = entry }) ∷ R) self.new }
         ensures number { result ≡ self.new.count }
         ensures end { self.new.end ≡ self.old.end }
@@ -157,7 +154,7 @@ impl RedoLog {
         ensures stable { OnOk result (self.new.stable ≡ self.old.count) }
         ensures count { OnOk result (self.new.count ≡ self.old.count) }
         ensures none { OnOk result (self.new.waiting.bytes ≡ []) }
-        ensures room { OnOk result (18 ≤ self.new.waiting.room) }
+        ensures room { OnOk result (COMMIT_SIZE ≤ self.new.waiting.room) }
         ensures cause { Causes D.meaning disk.old disk.new (IsErr result) }
         ensures only { IfErr result (λ e. e ≡ FrameFault.DeviceFault) }
         ensures told { D.meaning.told disk.new ↔ D.meaning.told disk.old }
@@ -186,7 +183,7 @@ impl RedoLog {
         ensures stable { OnOk result (self.new.stable ≡ self.old.count) }
         ensures count { OnOk result (self.new.count ≡ self.old.count) }
         ensures none { OnOk result (self.new.waiting.bytes ≡ []) }
-        ensures room { OnOk result (18 ≤ self.new.waiting.room) }
+        ensures room { OnOk result (COMMIT_SIZE ≤ self.new.waiting.room) }
         ensures cause { Causes D.meaning disk.old disk.new (IsErr result) }
         ensures only { IfErr result (λ e. e ≡ LogFault.DeviceFault) }
         ensures told { D.meaning.told disk.new ↔ D.meaning.told disk.old }

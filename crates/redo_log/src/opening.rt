@@ -1,12 +1,9 @@
 // The groups of a log from a gate on, as records.
 ghost use Rattle.std.specs.Prelude.{◌≡◌, ◌+◌, ◌-◌, ◌<◌, ◌≤◌, ◌^◌, ◌++◌, [], ℕ, List, length, min, reverse, true, IfOk, IsErr, IsErrOf};
-ghost use Rattle.seg_base.specs.declared.shape.Shape.{Shape};
-ghost use Rattle.disk_model.specs.Crash.{Causes, Untouched};
-ghost use Rattle.disk_model.specs.Only.{IsSettled};
+ghost use Rattle.seg_words.specs.Types.{Shape};
+ghost use Rattle.disk_model.specs.Types.{Causes, Untouched, IsSettled};
 ghost use Rattle.disk_model.specs.declared.disk.File.TheVariants.{Log};
-ghost use Rattle.log_frame.specs.Frame.{frames};
-ghost use Rattle.log_frame.specs.Spelling.{IsLog};
-ghost use Rattle.log_frame.specs.Reading.{Covers, payload_read};
+ghost use Rattle.log_frame.specs.Types.{frames, IsLog, Covers, payload_read};
 ghost use Rattle.redo_record.specs.declared.record.Record.{Record};
 ghost use Rattle.redo_log.specs.Kept.{last_number, Holds};
 ghost use Rattle.redo_log.specs.Found.{IsAdded, IsCounted, IsReadFrom, IsOpening, AnswersInMemory};
@@ -14,11 +11,12 @@ ghost use Rattle.redo_log.specs.Lasting.{IsOpened};
 
 use crate::fault::of_frame;
 use crate::payload::add_records;
+use crate::waiting::COMMIT_SIZE;
 use crate::{LogFault, RedoLog};
 use disk_model::Disk;
 use log_frame::GroupReader;
 use redo_record::Record;
-use seg_base::{Lsn, NoMemory};
+use seg_base::{FIRST_GATE, Lsn, NoMemory};
 use std::alloc::Global;
 
 // Adds the records of the group that was passed last.
@@ -102,8 +100,8 @@ pub fn open<D: Disk>(
 ) -> Result<RedoLog, LogFault>
     ensures found { (R0 : List Record) → D.meaning.told disk.old → before ≡ last_number R0 → IsOpening (D.meaning.files disk.old).log_bytes from R0 result }
     ensures whole { (shape : Shape) (passed after : List (List ℕ)) (R0 R : List Record) → IsSettled D.meaning disk.old Log → IsLog shape (passed ++ after) (D.meaning.files disk.old).log_bytes
-        → from ≡ 63 + length (frames passed) → before ≡ last_number R0 → Holds after R0 R → AnswersInMemory result (IsOpened D.meaning disk.new shape (passed ++ after) after R0 R) }
-    ensures room { IfOk result (λ log. 18 ≤ log.waiting.room) }
+        → from ≡ FIRST_GATE + length (frames passed) → before ≡ last_number R0 → Holds after R0 R → AnswersInMemory result (IsOpened D.meaning disk.new shape (passed ++ after) after R0 R) }
+    ensures room { IfOk result (λ log. COMMIT_SIZE ≤ log.waiting.room) }
     ensures none { IfOk result (λ log. log.waiting.bytes ≡ []) }
     ensures cause { Causes D.meaning disk.old disk.new (IsErrOf result LogFault.DeviceFault) }
     ensures untouched { Untouched D.meaning disk.old disk.new }

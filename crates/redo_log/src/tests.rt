@@ -3,7 +3,7 @@ use crate::{LogFault, RedoLog, open};
 use disk_model::{Disk, File, Memory};
 use log_frame::make_head;
 use redo_record::{BeginRecord, EndedRecord, Record, ReuseRecord};
-use seg_base::{Lsn, Scn, Shape, TxnId};
+use seg_base::{FIRST_GATE, Lsn, Scn, Shape, TxnId};
 use std::alloc::Global;
 use std::test::Fail;
 
@@ -23,7 +23,7 @@ fn formatted(alloc: Global) -> Result<Memory, Fail> {
 fn records_wait_and_are_read_again(rt: HostRuntime) -> Result<(), Fail> {
     let alloc = rt.alloc();
     let mut disk = formatted(alloc)?;
-    let mut log = open(alloc, &mut disk, 63, Lsn(0))?;
+    let mut log = open(alloc, &mut disk, FIRST_GATE, Lsn(0))?;
     let begin = Record::Begin(BeginRecord {
         txn: TxnId(1),
         session: 1,
@@ -49,9 +49,9 @@ fn records_wait_and_are_read_again(rt: HostRuntime) -> Result<(), Fail> {
     let mut written = [0xff; 24];
     assert_eq!(rt; disk.read(File::Log, 110, &mut written), Ok(24));
     assert_eq!(rt; &written, commit);
-    assert_eq!(rt; log.read_from(alloc, &mut disk, 63)?.len(), 4);
+    assert_eq!(rt; log.read_from(alloc, &mut disk, FIRST_GATE)?.len(), 4);
     assert_eq!(rt; log.read_from(alloc, &mut disk, 110)?.len(), 1);
-    for (from, before) in [(63, 0), (110, 3), (133, 4)] {
+    for (from, before) in [(FIRST_GATE, 0), (110, 3), (133, 4)] {
         let again = open(alloc, &mut disk, from, Lsn(before))?;
         assert_eq!(rt; again.stable(), Lsn(4), "from {from}");
     }
@@ -61,10 +61,10 @@ fn records_wait_and_are_read_again(rt: HostRuntime) -> Result<(), Fail> {
 // How many records opening finds, with these bytes from the first gate on.
 fn opened(alloc: Global, bytes: &[u8]) -> Result<Result<Lsn, LogFault>, Fail> {
     let mut disk = formatted(alloc)?;
-    if disk.write_at(File::Log, 63, bytes).is_err() {
+    if disk.write_at(File::Log, FIRST_GATE, bytes).is_err() {
         return Err("no write")?;
     }
-    Ok(open(alloc, &mut disk, 63, Lsn(7)).map(|log: RedoLog| log.stable()))
+    Ok(open(alloc, &mut disk, FIRST_GATE, Lsn(7)).map(|log: RedoLog| log.stable()))
 }
 
 fn bad(offset: u64, seen: u8) -> Result<Lsn, LogFault> {
@@ -102,11 +102,11 @@ fn the_first_wrong_byte_is_named(rt: HostRuntime) -> Result<(), Fail> {
     }
     let mut empty = Memory::new(alloc, b"", b"", &[2])?;
     assert_eq!(rt;
-        open(alloc, &mut empty, 63, Lsn(0)).err(),
+        open(alloc, &mut empty, FIRST_GATE, Lsn(0)).err(),
         Some(LogFault::NotOpen)
     );
     assert_eq!(rt;
-        open(alloc, &mut empty, 63, Lsn(0)).err(),
+        open(alloc, &mut empty, FIRST_GATE, Lsn(0)).err(),
         Some(LogFault::DeviceFault)
     );
     Ok(())

@@ -24,17 +24,18 @@ pub struct Waiting {
 impl Model for Waiting {
     ghost use Rattle.std.specs.Prelude.{◌≤◌, ◌-◌, ◌^◌, min, vec_len, vec_capacity};
     ghost use Rattle.redo_log.specs.Kept.{Waiting};
+    ghost use Rattle.redo_log.specs.declared.waiting.TheConstants.{COMMIT_SIZE};
 
     ghost Value = { Waiting };
 
     ghost view = { λ w. record { bytes = w.bytes.items; room = min (vec_capacity w.bytes - vec_len w.bytes) (2 ^ 32 - 1 - vec_len w.bytes) } };
 
-    ghost invariant = { λ w. (18 ≤ vec_capacity w.bytes) × (vec_len w.bytes ≤ 2 ^ 32 - 1) };
+    ghost invariant = { λ w. (COMMIT_SIZE ≤ vec_capacity w.bytes) × (vec_len w.bytes ≤ 2 ^ 32 - 1) };
 }
 
 impl Waiting {
     pub fn new(alloc: Global) -> Result<Waiting, NoMemory>
-        ensures { IfOk result (λ w. (w.bytes ≡ []) × (18 ≤ w.room)) }
+        ensures { IfOk result (λ w. (w.bytes ≡ []) × (COMMIT_SIZE ≤ w.room)) }
     {
         let mut bytes = Vec::new(alloc);
         bytes.reserve(COMMIT_SIZE)?;
@@ -51,7 +52,7 @@ impl Waiting {
     pub fn is_empty(&self) -> bool
         ensures yes { result ≡ true → self.now.bytes ≡ [] }
         ensures no { result ≡ false → 1 ≤ length self.now.bytes }
-        ensures room { result ≡ true → 18 ≤ self.now.room }
+        ensures room { result ≡ true → COMMIT_SIZE ≤ self.now.room }
     {
         self.bytes.is_empty()
     }
@@ -60,7 +61,7 @@ impl Waiting {
     /// group may be, nothing is added.
     pub fn add(&mut self, more: &[u8]) -> Result<(), NoMemory>
         ensures ok { OnOk result (self.new.bytes ≡ self.old.bytes ++ more.now) }
-        ensures room { OnOk result (18 ≤ self.new.room) }
+        ensures room { OnOk result (COMMIT_SIZE ≤ self.new.room) }
         ensures err { OnErr result (self.new.bytes ≡ self.old.bytes) }
         ensures kept { OnErr result (self.old.room ≤ self.new.room) }
     {
@@ -83,7 +84,7 @@ impl Waiting {
 
     pub fn clear(&mut self)
         ensures bytes { self.new.bytes ≡ [] }
-        ensures room { 18 ≤ self.new.room }
+        ensures room { COMMIT_SIZE ≤ self.new.room }
     {
         self.bytes.clear();
     }
@@ -91,7 +92,7 @@ impl Waiting {
 
 /// A Commit, without memory.
 #[tactic(auto, unfolding(redo_record::specs::Spelling::big_endian))]
-pub fn commit_bytes(c: CommitRecord) -> [u8; 18]
+pub fn commit_bytes(c: CommitRecord) -> [u8; COMMIT_SIZE]
     ensures bytes { result ≡ spelling (Commit c) }
     ensures spells { HasSpelling (Commit c) }
 {

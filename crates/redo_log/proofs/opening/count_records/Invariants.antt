@@ -1,7 +1,7 @@
 use Rattle.std.proofs.Common.{◌≡◌, ◌-◌, ◌^◌, ◌<◌, ◌≤◌, List}
-use Rattle.disk_model.specs.Crash.{Untouched}
+use Rattle.disk_model.specs.Types.{Untouched}
 use Rattle.redo_record.specs.declared.record.Record.{Record}
-use Rattle.log_frame.specs.Reading.{Covers}
+use Rattle.log_frame.specs.Types.{Covers}
 use Rattle.redo_log.specs.Kept.{last_number}
 use Rattle.redo_log.proofs.Walking.{Counting}
 use Rattle.redo_log.proofs.opening.count_records.Given as goal

@@ -1,9 +1,8 @@
-use Rattle.std.proofs.Common.{◌≡◌, ℕ, List, ap, sym, subst, refl, ◌∙◌, ◌<◌, ◌^◌, arith}
-use Rattle.std.specs.Prelude.{Ok, Err}
-use Rattle.disk_model.specs.Files.{Files}
-use Rattle.log_frame.specs.Reading.{Covers}
+use Rattle.std.proofs.Common.{◌≡◌, ℕ, List, ap, sym, subst, refl, ◌∙◌, ◌<◌, ◌^◌, arith, Ok, Err}
+use Rattle.disk_model.specs.Types.{Files}
+use Rattle.log_frame.specs.Types.{Covers}
 use Rattle.redo_log.specs.Found.{IsCounted, Stops}
-use Rattle.disk_model.proofs.Going.{untouched_then}
+use Rattle.disk_model.proofs.Lemmas.{untouched_then}
 use Rattle.redo_log.proofs.Sound.{opened}
 use Rattle.redo_log.proofs.Walking.{opens, stops_opening, begins_not, counted_here}
 use Rattle.redo_log.proofs.opening.open.Goals as goal

@@ -1,5 +1,5 @@
 use Rattle.std.proofs.Common.{◌≡◌, ap}
-use Rattle.disk_model.specs.Files.{Files}
+use Rattle.disk_model.specs.Types.{Files}
 use Rattle.redo_log.proofs.Walking.{read_here, not_begun}
 use Rattle.redo_log.proofs.opening.read_from.Goals as goal
 

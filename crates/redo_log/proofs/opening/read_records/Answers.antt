@@ -1,7 +1,6 @@
-use Rattle.std.proofs.Common.{◌≡◌, ℕ, List, reverse, [], arith, ap, sym, ◌∙◌}
-use Rattle.std.specs.Prelude.{Ok, Err}
-use Rattle.disk_model.specs.Files.{Files}
-use Rattle.disk_model.proofs.Going.{untouched_start, untouched_then}
+use Rattle.std.proofs.Common.{◌≡◌, ℕ, List, reverse, [], arith, ap, sym, ◌∙◌, Ok, Err}
+use Rattle.disk_model.specs.Types.{Files}
+use Rattle.disk_model.proofs.Lemmas.{untouched_start, untouched_then}
 use Rattle.redo_log.proofs.Walking.{gathering_begins, gathering_more, gathered_all, frame_breaks, payload_breaks, advanced, went_on, was_shut}
 use Rattle.redo_log.proofs.opening.read_records.Goals as goal
 

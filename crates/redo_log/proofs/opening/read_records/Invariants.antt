@@ -1,6 +1,6 @@
 use Rattle.std.proofs.Common.{◌-◌, ◌^◌, ◌<◌, ◌≤◌}
-use Rattle.disk_model.specs.Crash.{Untouched}
-use Rattle.log_frame.specs.Reading.{Covers}
+use Rattle.disk_model.specs.Types.{Untouched}
+use Rattle.log_frame.specs.Types.{Covers}
 use Rattle.redo_log.proofs.Walking.{Gathered}
 use Rattle.redo_log.proofs.opening.read_records.Given as goal
 

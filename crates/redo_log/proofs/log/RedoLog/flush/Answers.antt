@@ -1,5 +1,5 @@
 use Rattle.std.proofs.Common.{◌≡◌, ◌≤◌, ℕ, List, [], length, refl, sym, ap, ◌∙◌, subst}
-use Rattle.log_frame.specs.Ready.{IsReady}
+use Rattle.log_frame.specs.Types.{IsReady}
 use Rattle.redo_log.specs.Kept.{Kept, with_group}
 use Rattle.redo_log.proofs.Adding.{leaves_some, leaves_none, lasts_some, lasts_none, ready_some, ready_none, list_some, none_waits}
 use Rattle.redo_log.proofs.Acknowledging.{all_last}

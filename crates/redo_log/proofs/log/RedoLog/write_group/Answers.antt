@@ -1,10 +1,7 @@
-use Rattle.std.proofs.Common.{◌≡◌, ℕ, List, [], ◌∷◌, ◌++◌, refl, sym, ap, ◌∙◌, subst}
-use Rattle.std.specs.Prelude.{OnOk}
-use Rattle.disk_model.specs.Crash.{Leaves}
-use Rattle.disk_model.specs.Only.{OnlyFile}
+use Rattle.std.proofs.Common.{◌≡◌, ℕ, List, [], ◌∷◌, ◌++◌, refl, sym, ap, ◌∙◌, subst, OnOk}
+use Rattle.disk_model.specs.Types.{Leaves, OnlyFile}
 use Rattle.disk_model.specs.declared.disk.File.TheVariants.{Log}
-use Rattle.log_frame.specs.Ready.{IsReady, Leads}
-use Rattle.log_frame.specs.Spelling.{WithOrWithout}
+use Rattle.log_frame.specs.Types.{IsReady, Leads, WithOrWithout}
 use Rattle.redo_log.specs.Kept.{Kept}
 use Rattle.redo_log.specs.Lasting.{Lasts}
 use Rattle.redo_log.proofs.Adding.{all_stable}

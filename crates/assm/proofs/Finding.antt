@@ -1,15 +1,14 @@
 -- What was read of a group and of a log, one more at a time.
 use Rattle.std.proofs.Common.{◌≡◌, ℕ, ◌+◌, ◌<◌, Bool, true, false, List, [], ◌∷◌, length, Some, None, refl, ap, sym, ◌∙◌, inl, inr, subst, arith, ◌-◌, slice_index, Ok, Err}
-use Rattle.disk_model.specs.Files.{Files}
+use Rattle.disk_model.specs.Types.{Files}
 use Rattle.disk_model.specs.declared.disk.File.TheVariants.{Data, Log}
-use Rattle.log_frame.specs.Head.{is_formatted}
-use Rattle.log_frame.specs.Frame.{group_found}
-use Rattle.log_frame.specs.Found.{IsGroupFound}
+use Rattle.log_frame.specs.Types.{is_formatted, group_found, IsGroupFound}
 use Rattle.log_frame.specs.declared.log.Group.{Group}
 use Rattle.log_frame.specs.declared.fault.FrameFault.{FrameFault}
+use Rattle.log_frame.specs.declared.log.TheConstants.{GROUP_HEAD_SIZE}
 use Rattle.recovery.specs.Store.{fault_of, IsShapeFound, IsLogOpened}
 use Rattle.recovery.specs.declared.fault.OpenFault.{OpenFault}
-use Rattle.seg_words.specs.Types.{Shape}
+use Rattle.seg_words.specs.Types.{Shape, FIRST_GATE}
 use Rattle.assm.specs.declared.record.Record.{Record}
 use Rattle.assm.specs.declared.replay.GroupFault.{GroupFault}
 use Rattle.assm.specs.Lawful.{IsAllowed, Replays}
@@ -60,7 +59,7 @@ pub read_of : (g : Group) (payload : List ℕ) (R R' : List Record) → payload 
 read_of g payload R R' e h = subst (λ (z : List ℕ). IsRead z R R' []) e h
 
 -- ---- the groups of a log
-pub nothing_up_to : (bytes : List ℕ) → IsReadUpTo bytes 63 []
+pub nothing_up_to : (bytes : List ℕ) → IsReadUpTo bytes FIRST_GATE []
 nothing_up_to bytes = record { payloads = []; reads = (refl, refl) }
 
 pub more_up_to : (bytes : List ℕ) (at : ℕ) (R R' : List Record) (group : Group) → IsReadUpTo bytes at R → group_found bytes at ≡ Ok (Some group) → IsRead group.payload R R' [] → IsReadUpTo bytes group.next R'
@@ -76,12 +75,12 @@ module _ {A : Type 0} (files : Files) (P : A → Type 0) where
   group_refused at R (frame.BadFrame offset seen) formatted h found = (formatted, inr (inr (record { gate = at; before = R; read = h; wrong = inl found })))
   group_refused at R frame.NoMemory formatted h found = tt
 
-  record_at : (at : ℕ) (R : List Record) (g : Group) (place : ℕ) → is_formatted files.log_bytes ≡ true → IsReadUpTo files.log_bytes at R → group_found files.log_bytes at ≡ Ok (Some g) → IsBadGroup g.payload R place → Finds files P (Err (opening.BadFile Log (at + 5 + place) (slice_index g.payload place)))
+  record_at : (at : ℕ) (R : List Record) (g : Group) (place : ℕ) → is_formatted files.log_bytes ≡ true → IsReadUpTo files.log_bytes at R → group_found files.log_bytes at ≡ Ok (Some g) → IsBadGroup g.payload R place → Finds files P (Err (opening.BadFile Log (at + GROUP_HEAD_SIZE + place) (slice_index g.payload place)))
   record_at at R g place formatted h found bad =
       (formatted, inr (inr (record { gate = at; before = R; read = h; wrong = inr (g, place, found, bad, refl, refl) })))
 
   pub record_refused : (at : ℕ) (R : List Record) (g : Group) (first again : List ℕ) (fault : GroupFault) (answer : OpenFault) → is_formatted files.log_bytes ≡ true → IsReadUpTo files.log_bytes at R → group_found files.log_bytes at ≡ Ok (Some g)
-      → g.next ≡ at + 5 + length g.payload → first ≡ g.payload → again ≡ g.payload
+      → g.next ≡ at + GROUP_HEAD_SIZE + length g.payload → first ≡ g.payload → again ≡ g.payload
       → ((place : ℕ) → fault ≡ group.NoRecord place → IsBadGroup first R place)
       → ((place : ℕ) → fault ≡ group.NoRecord place → place < length again → answer ≡ opening.BadFile Log (g.next - (length again - place)) (slice_index again place))
       → (fault ≡ group.NoMemory → answer ≡ opening.NoMemory) → Finds files P (Err answer)
@@ -90,7 +89,7 @@ module _ {A : Type 0} (files : Files) (P : A → Type 0) where
       let short : place < length g.payload = omega (arith, b.place, b.some) in
       let told : answer ≡ opening.BadFile Log (g.next - (length g.payload - place)) (slice_index g.payload place) =
       is place refl (omega (arith, short, ap length e2)) ∙ ap (λ (z : List ℕ). opening.BadFile Log (g.next - (length z - place)) (slice_index z place)) e2 in
-      let where_it_is : g.next - (length g.payload - place) ≡ at + 5 + place = omega (arith, next, short) in
+      let where_it_is : g.next - (length g.payload - place) ≡ at + GROUP_HEAD_SIZE + place = omega (arith, next, short) in
       subst (λ (f : OpenFault). Finds files P (Err f)) (sym (told ∙ ap (λ (n : ℕ). opening.BadFile Log n (slice_index g.payload place)) where_it_is)) (record_at at R g place formatted h found b)
   record_refused at R g first again group.NoMemory answer formatted h found next e1 e2 bad is outside = subst (λ (f : OpenFault). Finds files P (Err f)) (sym (outside refl)) tt
 
@@ -103,7 +102,7 @@ module _ {A : Type 0} (files : Files) (P : A → Type 0) where
   head_finds opening.AlreadyFormatted h = absurd h
   head_finds opening.NoMemory h = absurd h
 
-  pub frames_find : (fault : OpenFault) → IsLogOpened files 63 (Err fault) → Finds files P (Err fault)
+  pub frames_find : (fault : OpenFault) → IsLogOpened files FIRST_GATE (Err fault) → Finds files P (Err fault)
   frames_find opening.DeviceFault h = tt
   frames_find opening.NotFormatted h = h
   frames_find (opening.BadFile Log offset seen) h = (h.0, inr (inl h.1))

@@ -1,11 +1,9 @@
 -- A flush, as a world sees it.
 use Rattle.std.proofs.Common.{◌≡◌, ℕ, ◌≤◌, List, [], ◌∷◌, ◌++◌, length, length-append, ap, sym, refl, subst, arith, Err, Option, ◌⊎◌, inl, inr, ◌∙◌, IsErrOf, Result}
 use Rattle.seg_words.specs.Types.{Shape}
-use Rattle.disk_model.specs.Crash.{Meaning, Leaves}
-use Rattle.disk_model.specs.Only.{OnlyFile}
+use Rattle.disk_model.specs.Types.{Meaning, Leaves, OnlyFile}
 use Rattle.disk_model.specs.declared.disk.File.TheVariants.{Log}
-use Rattle.log_frame.specs.Spelling.{WithOrWithout}
-use Rattle.log_frame.specs.Ready.{IsReady, Leads}
+use Rattle.log_frame.specs.Types.{WithOrWithout, IsReady, Leads}
 use Rattle.assm.specs.declared.record.Record.{Record}
 use Rattle.assm.specs.declared.entry.HistoryItem.{HistoryItem}
 use Rattle.assm.specs.Redo.{prefix, commit_count}

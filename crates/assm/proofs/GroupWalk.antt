@@ -1,17 +1,14 @@
 -- The groups of a log, one after the other.
 use Rattle.std.proofs.Common.{◌≡◌, ℕ, ◌+◌, ◌<◌, List, [], ◌∷◌, ◌++◌, length, Option, Some, None, refl, ap, sym, ◌∙◌, arith, subst, append_assoc, length-append, is_some, Result, Err, true≢false}
 use Rattle.seg_words.proofs.Lemmas.{flat_map-append}
-use Rattle.log_frame.specs.Frame.{frame, frames, group_found}
-use Rattle.log_frame.specs.Found.{IsFirst, IsGroupFound, AnswersInMemory}
-use Rattle.log_frame.specs.Spelling.{IsLog}
-use Rattle.log_frame.specs.Ready.{IsReady}
+use Rattle.log_frame.specs.Types.{frame, frames, group_found, IsFirst, IsGroupFound, AnswersInMemory, IsLog, IsReady}
 use Rattle.log_frame.specs.declared.fault.FrameFault.{FrameFault}
-use Rattle.seg_words.specs.Types.{Shape}
-use Rattle.disk_model.specs.Files.{Files}
-use Rattle.disk_model.specs.Crash.{Meaning, Untouched}
+use Rattle.log_frame.specs.declared.log.Group.{Group}
+use Rattle.log_frame.specs.declared.log.TheConstants.{GROUP_HEAD_SIZE}
+use Rattle.seg_words.specs.Types.{Shape, FIRST_GATE}
+use Rattle.disk_model.specs.Types.{Files, Meaning, Untouched}
 use Rattle.recovery.specs.Store.{fault_of}
 use Rattle.assm.specs.Opens.{IsOutside}
-use Rattle.log_frame.specs.declared.log.Group.{Group}
 use Rattle.assm.specs.declared.record.Record.{Record}
 use Rattle.assm.specs.Lawful.{IsLawful}
 use Rattle.assm.specs.Plain.{spelled_all, AreFit}
@@ -23,10 +20,10 @@ pub record HasRead (groups : List (List ℕ)) (R : List Record) (at : ℕ) (stor
   pub before : List (List ℕ)
   pub after : List (List ℕ)
   pub parts : groups ≡ before ++ after
-  pub place : at ≡ 63 + length (frames before)
+  pub place : at ≡ FIRST_GATE + length (frames before)
   pub holds : Holds after store R
 
-pub reads_none : (groups : List (List ℕ)) (R : List Record) → Holds groups [] R → HasRead groups R 63 []
+pub reads_none : (groups : List (List ℕ)) (R : List Record) → Holds groups [] R → HasRead groups R FIRST_GATE []
 reads_none groups R h = record { before = []; after = groups; parts = refl; place = refl; holds = h }
 
 holds_lawful : (groups : List (List ℕ)) (R0 R : List Record) → Holds groups R0 R → IsLawful R → IsLawful R0
@@ -63,9 +60,9 @@ next_group groups R at store group lawful h first = by h.after h.parts h.holds f
     by : (after : List (List ℕ)) → groups ≡ h.before ++ after → Holds after store R → IsFirst after at (Some group) → HasNext groups R at store group
     by [] parts holds first = absurd (true≢false (ap (λ (o : Option Group). is_some o) first))
     by (payload ∷ after) parts holds first =
-        let is : group ≡ record { payload = payload; next = at + 5 + length payload } = some_is _ _ first in
-        let next-is : group.next ≡ at + 5 + length payload = ap (λ (g : Group). g.next) is in
-        let grown : length (frames (h.before ++ payload ∷ [])) ≡ length (frames h.before) + (5 + length payload) = ap length (flat_map-append frame h.before (payload ∷ [])) ∙ omega (arith, length-append (frames h.before) (frames (payload ∷ [])), length-append (frame payload) []) in
+        let is : group ≡ record { payload = payload; next = at + GROUP_HEAD_SIZE + length payload } = some_is _ _ first in
+        let next-is : group.next ≡ at + GROUP_HEAD_SIZE + length payload = ap (λ (g : Group). g.next) is in
+        let grown : length (frames (h.before ++ payload ∷ [])) ≡ length (frames h.before) + (GROUP_HEAD_SIZE + length payload) = ap length (flat_map-append frame h.before (payload ∷ [])) ∙ omega (arith, length-append (frames h.before) (frames (payload ∷ [])), length-append (frame payload) []) in
         record {
           newer = holds.0;
           further = omega (arith, next-is);
@@ -93,7 +90,7 @@ log_now meaning old now shape groups end untouched ready = record {
 }
 
 -- what reading at a gate says of the groups from there on
-pub first_at : {D : Type 0} (meaning : Meaning D) (old now : D) (shape : Shape) (groups : List (List ℕ)) (R : List Record) (at end : ℕ) (store : List Record) (result : Result (Option Group) FrameFault) → Untouched meaning old now → IsReady meaning old shape groups end → (h : HasRead groups R at store) → ((shape : Shape) (before after : List (List ℕ)) → meaning.told now → IsLog shape (before ++ after) (meaning.files now).log_bytes → at ≡ 63 + length (frames before) → AnswersInMemory result (IsFirst after at)) → AnswersInMemory result (IsFirst h.after at)
+pub first_at : {D : Type 0} (meaning : Meaning D) (old now : D) (shape : Shape) (groups : List (List ℕ)) (R : List Record) (at end : ℕ) (store : List Record) (result : Result (Option Group) FrameFault) → Untouched meaning old now → IsReady meaning old shape groups end → (h : HasRead groups R at store) → ((shape : Shape) (before after : List (List ℕ)) → meaning.told now → IsLog shape (before ++ after) (meaning.files now).log_bytes → at ≡ FIRST_GATE + length (frames before) → AnswersInMemory result (IsFirst after at)) → AnswersInMemory result (IsFirst h.after at)
 first_at meaning old now shape groups R at end store result untouched ready h whole =
     let l = log_now meaning old now shape groups end untouched ready in
     whole shape h.before h.after l.told (subst (λ (z : List (List ℕ)). IsLog shape z (meaning.files now).log_bytes) h.parts l.log) h.place

@@ -1,7 +1,7 @@
 -- What an answer says of whether the log is formatted.
 use Rattle.std.proofs.Common.{◌≡◌, Bool, true, Err}
-use Rattle.disk_model.specs.Files.{Files}
-use Rattle.log_frame.specs.Head.{is_formatted}
+use Rattle.disk_model.specs.Types.{Files}
+use Rattle.log_frame.specs.Types.{is_formatted}
 use Rattle.recovery.specs.declared.fault.OpenFault.{OpenFault}
 use Rattle.assm.specs.declared.fault.RunFault.{RunFault}
 use Rattle.assm.specs.Finds.{Finds}

@@ -1,12 +1,9 @@
 -- A sound store that was opened.
 use Rattle.std.proofs.Common.{◌≡◌, ℕ, ◌≤◌, List, [], ◌∷◌, length, ap, sym, ◌∙◌, arith, inl, inr, subst, Ok, Err, length-append}
 use Rattle.seg_words.specs.Types.{Shape}
-use Rattle.disk_model.specs.Files.{Files}
-use Rattle.disk_model.specs.Crash.{Meaning, Untouched}
-use Rattle.disk_model.specs.Only.{IsSettled}
+use Rattle.disk_model.specs.Types.{Files, Meaning, Untouched, IsSettled}
 use Rattle.disk_model.specs.declared.disk.File.TheVariants.{Log}
-use Rattle.log_frame.specs.Spelling.{IsLog}
-use Rattle.log_frame.specs.Ready.{IsReady}
+use Rattle.log_frame.specs.Types.{IsLog, IsReady}
 use Rattle.recovery.specs.Store.{Answers, IsStore}
 use Rattle.recovery.specs.declared.fault.OpenFault.{OpenFault}
 use Rattle.assm.specs.declared.record.Record.{Record}

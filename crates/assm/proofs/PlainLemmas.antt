@@ -1,8 +1,7 @@
 -- What is spelled is read, whatever follows.
-use Rattle.std.proofs.Common.{◌≡◌, ℕ, ◌+◌, ◌^◌, ◌<◌, true, false, cond, ltb, ◌-◌, get_or, reverse, List, [], ◌∷◌, ◌++◌, length, take, drop, Option, Some, None, refl, sym, ap, subst, ◌∙◌, append_assoc, arith, length-append, le-ltb, take_at, drop_at, take_all}
+use Rattle.std.proofs.Common.{◌≡◌, ℕ, ◌+◌, ◌^◌, ◌<◌, true, false, cond, ltb, ◌-◌, get_or, reverse, List, [], ◌∷◌, ◌++◌, length, take, drop, Option, Some, None, refl, sym, ap, subst, ◌∙◌, append_assoc, arith, length-append, le-ltb, take_at, drop_at, take_all, take-add}
 use Rattle.seg_words.specs.Types.{Width, w16, w64, byte_len, from_be_bytes, to_be_bytes, is_name}
 use Rattle.seg_words.proofs.Lemmas.{reverse-append, from_be_bytes-to_be_bytes_2, from_be_bytes-to_be_bytes_8}
-use Rattle.std.proofs.Math.Seq.{take-add}
 use Rattle.assm.specs.declared.record.Record.{Record}
 use Rattle.assm.specs.declared.record.Record.TheVariants.{Table, Begin, Insert, Commit, Ended}
 use Rattle.assm.specs.Script.{◌>>=◌}

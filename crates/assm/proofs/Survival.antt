@@ -2,12 +2,9 @@
 use Rattle.std.proofs.Common.{◌≡◌, ℕ, ◌-◌, ◌≤◌, List, [], ◌∷◌, ◌++◌, length, take, drop, ap, sym, ◌∙◌, arith, inl, inr, subst, length-append, take-append-drop}
 use Rattle.seg_words.proofs.Lemmas.{cases_order}
 use Rattle.seg_words.specs.Types.{Shape}
-use Rattle.disk_model.specs.Files.{Files}
-use Rattle.disk_model.specs.Crash.{Meaning, Now, Leaves}
-use Rattle.disk_model.specs.Only.{OnlyFile}
+use Rattle.disk_model.specs.Types.{Files, Meaning, Now, Leaves, OnlyFile}
 use Rattle.disk_model.specs.declared.disk.File.TheVariants.{Log}
-use Rattle.log_frame.specs.Spelling.{IsLog, WithOrWithout}
-use Rattle.log_frame.specs.Ready.{Leads}
+use Rattle.log_frame.specs.Types.{IsLog, WithOrWithout, Leads}
 use Rattle.assm.specs.declared.record.Record.{Record}
 use Rattle.assm.specs.declared.record.Record.TheVariants.{Table, Begin, Insert, Commit, Ended}
 use Rattle.assm.specs.declared.entry.Entry.{Entry}

@@ -1,9 +1,8 @@
 -- What the top call tells.
 use Rattle.std.proofs.Common.{◌≡◌, ℕ, List, [], length, refl, ap, sym, ◌∙◌, inl, inr, subst, Option, Err}
 use Rattle.seg_words.specs.Types.{Shape}
-use Rattle.disk_model.specs.Files.{Files}
-use Rattle.disk_model.specs.Crash.{Meaning, Now, Untouched}
-use Rattle.log_frame.specs.Spelling.{IsLog}
+use Rattle.disk_model.specs.Types.{Files, Meaning, Now, Untouched}
+use Rattle.log_frame.specs.Types.{IsLog}
 use Rattle.assm.specs.declared.record.Record.{Record}
 use Rattle.assm.specs.declared.entry.HistoryItem.{HistoryItem}
 use Rattle.recovery.specs.declared.fault.OpenFault.{OpenFault}

@@ -1,7 +1,6 @@
 -- Tables and views, by a walk over the records.
-use Rattle.std.proofs.Common.{◌≡◌, ℕ, ◌+◌, ◌-◌, ◌≤◌, ◌<◌, cond, Bool, ◌&&◌, eqb, List, [], ◌∷◌, ◌++◌, refl, ap, sym, ◌∙◌, arith, reverse, take, drop, length, get_or, subst, Some, None, lt-ltb, ne_eqb, take_all}
+use Rattle.std.proofs.Common.{◌≡◌, ℕ, ◌+◌, ◌-◌, ◌≤◌, ◌<◌, cond, Bool, ◌&&◌, eqb, List, [], ◌∷◌, ◌++◌, refl, ap, sym, ◌∙◌, arith, reverse, take, drop, length, get_or, subst, Some, None, lt-ltb, ne_eqb, take_all, take-add}
 use Rattle.seg_words.proofs.Lemmas.{reverse-append}
-use Rattle.std.proofs.Math.Seq.{take-add}
 use Rattle.std.specs.FinMap.{empty}
 use Rattle.assm.specs.declared.record.Record.{Record}
 use Rattle.assm.specs.declared.record.Record.TheVariants.{Table, Begin, Insert, Commit, Ended}

@@ -1,13 +1,12 @@
 -- What an opening finds in the files of a store: its records, or the first byte that is no store's.
 use Rattle.seg_words.specs.Types.{FIRST_GATE, LOG_HEAD_SIZE, Shape}
 use Rattle.std.specs.Prelude.{◌≡◌, ◌⊎◌, ℕ, ◌+◌, ◌<◌, ◌≤◌, Bool, true, false, List, [], ◌∷◌, ◌++◌, length, take, slice_index, Result, Ok, Err, Some, None}
-use Rattle.disk_model.specs.Files.{Files}
+use Rattle.disk_model.specs.Types.{Files}
 use Rattle.disk_model.specs.declared.disk.File.{File}
 use Rattle.disk_model.specs.declared.disk.File.TheVariants.{Data, Log}
-use Rattle.log_frame.specs.Head.{is_formatted, shape_found}
-use Rattle.log_frame.specs.Frame.{group_found}
-use Rattle.log_frame.specs.Found.{wrong, Walked}
+use Rattle.log_frame.specs.Types.{is_formatted, shape_found, group_found, wrong, Walked}
 use Rattle.log_frame.specs.declared.log.Group.{Group}
+use Rattle.log_frame.specs.declared.log.TheConstants.{GROUP_HEAD_SIZE}
 use Rattle.recovery.specs.Store.{data_size}
 use Rattle.recovery.specs.declared.fault.OpenFault.{OpenFault}
 use Rattle.recovery.specs.declared.fault.OpenFault.TheVariants.{NotFormatted, BadFile, AlreadyFormatted}
@@ -67,7 +66,7 @@ pub record HasRecords (bytes : List ℕ) (R : List Record) : Type 0 where
 -- a record of the group behind this gate is none, or may not stand there
 abbrev pub IsBadBehind : List ℕ → ℕ → List Record → ℕ → ℕ → Type 0
 IsBadBehind bytes gate R offset seen =
-    (group : Group) × (at : ℕ) × (group_found bytes gate ≡ Ok (Some group)) × IsBadGroup group.payload R at × (offset ≡ gate + 5 + at) × (seen ≡ slice_index group.payload at)
+    (group : Group) × (at : ℕ) × (group_found bytes gate ≡ Ok (Some group)) × IsBadGroup group.payload R at × (offset ≡ gate + GROUP_HEAD_SIZE + at) × (seen ≡ slice_index group.payload at)
 
 -- all groups before a gate were read, and the first wrong byte stands behind it
 pub record IsBadRecord (bytes : List ℕ) (offset seen : ℕ) : Type 0 where

@@ -1,7 +1,7 @@
 -- A world between two calls on the disk.
 use Rattle.std.specs.Prelude.{ℕ}
 use Rattle.seg_words.specs.Types.{Shape}
-use Rattle.disk_model.specs.Crash.{Meaning}
+use Rattle.disk_model.specs.Types.{Meaning}
 use Rattle.assm.specs.declared.world.World.{World}
 use Rattle.assm.specs.Survives.{IsLive, Lasts}
 

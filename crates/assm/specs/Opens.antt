@@ -1,9 +1,8 @@
 -- Opening a sound store.
 use Rattle.std.specs.Prelude.{◌≡◌, ◌⊎◌, false, List, [], Result, Ok, Err, None}
 use Rattle.seg_words.specs.Types.{Shape}
-use Rattle.disk_model.specs.Files.{Files}
-use Rattle.disk_model.specs.Crash.{Meaning, Now}
-use Rattle.log_frame.specs.Head.{is_formatted}
+use Rattle.disk_model.specs.Types.{Files, Meaning, Now}
+use Rattle.log_frame.specs.Types.{is_formatted}
 use Rattle.recovery.specs.declared.fault.OpenFault.{OpenFault}
 use Rattle.recovery.specs.declared.fault.OpenFault.TheVariants.{DeviceFault, AlreadyFormatted, NoMemory}
 use Rattle.recovery.specs.Store.{AreZero}

@@ -2,10 +2,8 @@
 -- Concepts.
 use Rattle.std.specs.Prelude.{◌≡◌, ℕ, ◌≤◌, List, [], ◌∷◌, ◌++◌, length}
 use Rattle.seg_words.specs.Types.{Shape}
-use Rattle.disk_model.specs.Files.{Files}
-use Rattle.disk_model.specs.Crash.{Meaning, Now}
-use Rattle.log_frame.specs.Spelling.{IsLog}
-use Rattle.log_frame.specs.Ready.{IsReady}
+use Rattle.disk_model.specs.Types.{Files, Meaning, Now}
+use Rattle.log_frame.specs.Types.{IsLog, IsReady}
 use Rattle.recovery.specs.Store.{data_size}
 use Rattle.assm.specs.declared.record.Record.{Record}
 use Rattle.assm.specs.declared.entry.Outcome.{Outcome}

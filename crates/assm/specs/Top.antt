@@ -2,10 +2,9 @@
 use Rattle.seg_words.specs.Types.{OWN_BLOCKS, Shape}
 use Rattle.std.specs.Prelude.{◌≡◌, ◌⊎◌, ℕ, ◌+◌, ◌-◌, ◌/◌, ◌^◌, ◌≤◌, true, List, ◌++◌, length, Option, Ok, Err, codes, decimal}
 use Rattle.std.specs.Io.KnownBytes.{Appends}
-use Rattle.disk_model.specs.Files.{Files}
-use Rattle.disk_model.specs.Crash.{Meaning, Now, Leaves, Untouched}
+use Rattle.disk_model.specs.Types.{Files, Meaning, Now, Leaves, Untouched}
 use Rattle.text_port.specs.Whole.{AppendsPrefix, WereAll}
-use Rattle.log_frame.specs.Head.{is_formatted}
+use Rattle.log_frame.specs.Types.{is_formatted}
 use Rattle.assm.specs.declared.record.Record.{Record}
 use Rattle.assm.specs.declared.statement.Statement.{Statement}
 use Rattle.assm.specs.declared.entry.HistoryItem.{HistoryItem}

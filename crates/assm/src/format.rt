@@ -1,8 +1,8 @@
 // Making an empty store.
 ghost use Rattle.std.specs.Prelude.{◌≡◌, false, true, IfErr, IsErrOf, OnOk};
 ghost use Rattle.seg_words.specs.Types.{is_shape};
-ghost use Rattle.disk_model.specs.Crash.{Causes, Leaves, Untouched};
-ghost use Rattle.log_frame.specs.Head.{is_formatted};
+ghost use Rattle.disk_model.specs.Types.{Causes, Leaves, Untouched};
+ghost use Rattle.log_frame.specs.Types.{is_formatted};
 ghost use Rattle.assm.specs.Opens.{StartsBlank, BlankOrEmpty, IsMade, IsFormatFault};
 
 use disk_model::Disk;

@@ -1,10 +1,9 @@
 // Opening a store: its log is read, and what is active is taken back.
 ghost use Rattle.std.specs.Prelude.{◌≡◌, ◌-◌, ◌<◌, ◌≤◌, ℕ, List, [], true, length, slice_index, OnOk, IfOk, IfErr, IsErrOf};
 ghost use Rattle.seg_words.specs.Types.{Shape as TheShape};
-ghost use Rattle.disk_model.specs.Crash.{Causes, Untouched};
+ghost use Rattle.disk_model.specs.Types.{Causes, Untouched};
 ghost use Rattle.disk_model.specs.declared.disk.File.TheVariants.{Log};
-ghost use Rattle.log_frame.specs.Head.{is_formatted};
-ghost use Rattle.log_frame.specs.Ready.{IsReady};
+ghost use Rattle.log_frame.specs.Types.{is_formatted, IsReady};
 ghost use Rattle.assm.specs.declared.record.Record.{Record};
 ghost use Rattle.assm.specs.Opens.{StartsSound, OpensTo, TakenBack};
 ghost use Rattle.assm.specs.Finds.{Finds, HasRecords, OpensWith};

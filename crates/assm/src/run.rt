@@ -2,7 +2,7 @@
 ghost use Rattle.std.specs.Prelude.{◌≡◌, ◌<◌, ◌≤◌, ◌^◌, ℕ, [], length, OnOk, OnErr, IfErr, IsErrOf};
 ghost use Rattle.std.specs.Io.KnownBytes.{Appends};
 ghost use Rattle.seg_words.specs.Types.{Shape, Rose};
-ghost use Rattle.disk_model.specs.Crash.{Causes};
+ghost use Rattle.disk_model.specs.Types.{Causes};
 ghost use Rattle.assm.specs.Lawful.{IsLawful};
 ghost use Rattle.assm.specs.Lines.{text_of};
 ghost use Rattle.assm.specs.Live.{Live, Lasting};

@@ -3,7 +3,7 @@ ghost use Rattle.std.specs.Prelude.{◌≡◌, ◌∷◌, ◌<◌, ◌≤◌, �
 ghost use Rattle.std.specs.Io.KnownBytes.{Appends};
 ghost use Rattle.seg_words.specs.Types.{Shape, Rose};
 ghost use Rattle.text_port.specs.Whole.{AppendsPrefix};
-ghost use Rattle.disk_model.specs.Crash.{Causes};
+ghost use Rattle.disk_model.specs.Types.{Causes};
 ghost use Rattle.assm.specs.Redo.{commit_count, prefix};
 ghost use Rattle.assm.specs.Lawful.{IsLawful};
 ghost use Rattle.assm.specs.Lines.{entry_text};

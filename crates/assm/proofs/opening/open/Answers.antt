@@ -1,11 +1,11 @@
 use Rattle.std.proofs.Common.{◌≡◌, ℕ, List, [], length, ap, sym, ◌∙◌, subst, refl, Err}
-use Rattle.disk_model.specs.Files.{Files}
-use Rattle.log_frame.specs.Head.{is_formatted}
+use Rattle.seg_words.specs.Types.{FIRST_GATE}
+use Rattle.disk_model.specs.Types.{Files}
+use Rattle.log_frame.specs.Types.{is_formatted, IsReady}
 use Rattle.recovery.specs.Store.{IsLogOpened}
 use Rattle.recovery.specs.declared.fault.OpenFault.{OpenFault}
 use Rattle.assm.specs.declared.world.World.{World}
-use Rattle.disk_model.proofs.Going.{untouched_then}
-use Rattle.log_frame.specs.Ready.{IsReady}
+use Rattle.disk_model.proofs.Lemmas.{untouched_then}
 use Rattle.assm.specs.declared.record.Record.{Record}
 use Rattle.assm.specs.Finds.{Finds, HasRecords, OpensWith}
 use Rattle.assm.specs.Opens.{TakenBack}
@@ -64,7 +64,7 @@ returns-in-Err-open_log-clause-found g c = λ told.
     let files = meaning.files c.args.disk.now in
     let P : World → Type 0 = λ world. OpensWith files world.store in
     let untouched = c.read_head.ensures.untouched in
-    frames_find files P c.in-Err-open_log.fault (subst (λ (f : Files). IsLogOpened f 63 (Err c.in-Err-open_log.fault)) (untouched.files told) (c.in-Err-open_log.ensures.found (untouched.told.1 told)))
+    frames_find files P c.in-Err-open_log.fault (subst (λ (f : Files). IsLogOpened f FIRST_GATE (Err c.in-Err-open_log.fault)) (untouched.files told) (c.in-Err-open_log.ensures.found (untouched.told.1 told)))
 
 pub returns-in-Err-read_records-clause-found : goal.returns-in-Err-read_records-clause-found
 returns-in-Err-read_records-clause-found g c = λ told.

@@ -3,9 +3,10 @@ use Rattle.recovery.specs.declared.fault.OpenFault.{OpenFault}
 use Rattle.assm.specs.declared.replay.GroupFault.{GroupFault}
 use Rattle.assm.specs.Finds.{Finds, HasRecords}
 use Rattle.assm.proofs.Finding.{more_up_to, all_up_to, group_refused, record_refused, read_of}
+use Rattle.log_frame.specs.Types.{IsFirst}
 use Rattle.log_frame.specs.declared.log.Group.{Group}
-use Rattle.log_frame.specs.Found.{IsFirst}
-use Rattle.disk_model.proofs.Going.{untouched_then}
+use Rattle.log_frame.specs.declared.log.TheConstants.{GROUP_HEAD_SIZE}
+use Rattle.disk_model.proofs.Lemmas.{untouched_then}
 use Rattle.assm.specs.declared.record.Record.{Record}
 use Rattle.assm.specs.Opens.{IsOutside}
 use Rattle.assm.proofs.GroupWalk.{HasRead, reads_all, next_group, first_at, outside_frame, found_at}
@@ -62,5 +63,5 @@ returns-in-Err-replay_group-clause-found g c = λ told formatted.
     let at_gate = found_at g.D.Disk.meaning c.args.disk.now c.loop-group.disk c.loop-group.at (Ok c.in-Ok-Some.field-0) c.loop-group.invariant.untouched told c.in-Ok-Some.ensures.found in
     let P : List Record → Type 0 = λ store. HasRecords files.log_bytes store in
     record_refused files P c.loop-group.at c.loop-group.store c.in-Ok-Some.group c.as_slice.result.now c.as_slice-in-Err-replay_group.result.now c.in-Err-replay_group.fault c.bad_group.result formatted (c.loop-group.invariant.found told) (at_gate ∙ ap (λ (o : Option Group). Ok o) c.in-Ok-Some.field-0-is)
-    (subst (λ (o : Option Group). IfSome o (λ (g : Group). g.next ≡ c.loop-group.at + 5 + length g.payload)) c.in-Ok-Some.field-0-is c.in-Ok-Some.ensures.next) c.as_slice.ensures c.as_slice-in-Err-replay_group.ensures
+    (subst (λ (o : Option Group). IfSome o (λ (g : Group). g.next ≡ c.loop-group.at + GROUP_HEAD_SIZE + length g.payload)) c.in-Ok-Some.field-0-is c.in-Ok-Some.ensures.next) c.as_slice.ensures c.as_slice-in-Err-replay_group.ensures
     (λ place e. c.in-Err-replay_group.ensures.none place (ap (λ (f : GroupFault). Err f) e)) c.bad_group.ensures.bad c.bad_group.ensures.outside

@@ -1,7 +1,7 @@
 use Rattle.std.proofs.Common.{ℕ, ◌-◌, ◌^◌, ◌≤◌, List, []}
 use Rattle.seg_words.specs.Types.{Shape}
-use Rattle.disk_model.specs.Crash.{Untouched}
-use Rattle.log_frame.specs.Ready.{IsReady}
+use Rattle.disk_model.specs.Types.{Untouched}
+use Rattle.log_frame.specs.Types.{IsReady}
 use Rattle.assm.specs.declared.record.Record.{Record}
 use Rattle.assm.specs.Finds.{IsReadUpTo}
 use Rattle.assm.specs.Lawful.{IsLawful}

@@ -4,7 +4,7 @@ use Rattle.assm.specs.declared.status.Status.{Status}
 use Rattle.recovery.specs.declared.fault.OpenFault.{OpenFault}
 use Rattle.assm.specs.declared.world.World.{World}
 use Rattle.assm.specs.Finds.{OpensWith}
-use Rattle.log_frame.specs.Head.{is_formatted}
+use Rattle.log_frame.specs.Types.{is_formatted}
 use Rattle.assm.specs.Heads.{HeadOfRun}
 use Rattle.assm.specs.Top.{RunTells}
 use Rattle.assm.proofs.HeadLemmas.{open_head, run_head}

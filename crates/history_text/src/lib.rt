@@ -1,7 +1,6 @@
 //! What a run of a script led to, statement by statement, and its printed text.
 #![tactic(auto)]
 
-mod bytes;
 mod entry;
 mod lines;
 mod outcome;

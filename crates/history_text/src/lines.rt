@@ -2,13 +2,13 @@
 ghost use Rattle.std.specs.Prelude.{◌≡◌, ◌++◌, IfOk, OnOk, codes, decimal};
 ghost use Rattle.history_text.specs.Lines.{row_line, row_lines, scan_text, switch_text, movement_text, stop_text, shrink_text, released_text, class_text, fixed_text, repaired_text, ordinal_text, outcome_text, entry_text};
 
-use crate::bytes::{put, put_number};
 use crate::entry::Entry;
 use crate::outcome::{Outcome, RowOut, Stop};
 use crate::refused::put_refusal;
 use crate::usage::put_usage;
 use seg_base::{Class, Dba, Name, NoMemory, Rowid, Scn};
 use std::alloc::Global;
+use text_port::{put, put_number};
 
 #[tactic(auto, unfolding(crate::specs::Lines::row_line))]
 fn put_row(out: &mut Vec<u8>, row: &RowOut) -> Result<(), NoMemory>

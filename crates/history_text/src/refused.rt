@@ -2,9 +2,9 @@
 ghost use Rattle.std.specs.Prelude.{◌≡◌, ◌++◌, OnOk, codes, decimal};
 ghost use Rattle.history_text.specs.Refusals.{numbers_text, holders_text, holder_text, gone_text, address_text, undo_text, refusal_text, refused_text};
 
-use crate::bytes::{put, put_number};
 use crate::refusal::Refusal;
 use seg_base::{Dba, NoMemory, Scn, TxnId, UndoAddr};
+use text_port::{put, put_number};
 
 /// Adds a number behind a text.
 fn put_numbered(out: &mut Vec<u8>, text: &[u8], number: u64) -> Result<(), NoMemory>

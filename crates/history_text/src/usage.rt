@@ -2,9 +2,9 @@
 ghost use Rattle.std.specs.Prelude.{◌≡◌, ◌++◌, ◌*◌, OnOk, codes, decimal};
 ghost use Rattle.history_text.specs.Lines.{usage_text, count_text, unformatted_text, usage_quarters, usage_counts, usage_marks, usage_bytes};
 
-use crate::bytes::{put, put_number};
 use crate::outcome::Usage;
 use seg_base::{BLOCK_SIZE, Name, NoMemory};
+use text_port::{put, put_number};
 
 /// Adds how many blocks are kept as one class.
 #[tactic(auto, unfolding(crate::specs::Lines::count_text))]

@@ -10,20 +10,7 @@ use crate::scripts::Scripts;
 use crate::statement::{Statement, Target, Turns};
 use seg_base::{NoMemory, Sequence};
 use std::alloc::Global;
-
-fn put(out: &mut Vec<u8>, bytes: &[u8]) -> Result<(), NoMemory>
-    ensures { OnOk result (out.new.items ≡ out.old.items ++ bytes.now) }
-{
-    out.extend_from_slice(bytes)?;
-    Ok(())
-}
-
-fn put_number(out: &mut Vec<u8>, number: u64) -> Result<(), NoMemory>
-    ensures { OnOk result (out.new.items ≡ out.old.items ++ decimal number) }
-{
-    let text = number.to_string(*out.allocator())?;
-    put(out, text.as_bytes())
-}
+use text_port::{put, put_number};
 
 /// Adds a space and a word.
 fn put_word(out: &mut Vec<u8>, word: &[u8]) -> Result<(), NoMemory>

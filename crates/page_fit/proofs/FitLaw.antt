@@ -1,12 +1,9 @@
 -- Each allowed record fits every page that it touches.
-use Rattle.std.proofs.Common.{◌≡◌, ◌⊎◌, ℕ, zero, suc, ◌+◌, ◌-◌, ◌*◌, ◌<◌, ◌≤◌, min, Bool, true, false, eqb, ◌||◌, List, [], ◌∷◌, length, map, take, drop, slice_index, Option, Some, None, refl, sym, ◌∙◌, ap, ap₂, subst, arith, inl, inr}
+use Rattle.std.proofs.Common.{◌≡◌, ◌⊎◌, ℕ, zero, suc, ◌+◌, ◌-◌, ◌*◌, ◌<◌, ◌≤◌, min, Bool, true, false, eqb, ◌||◌, List, [], ◌∷◌, length, map, take, drop, slice_index, Option, Some, None, refl, sym, ◌∙◌, ap, subst, arith, inl, inr}
 use Rattle.std.proofs.lemmas.Bool.{true≢false, cases_Bool, eqb-true, eq-eqb, or_cases, or_left, or_right, and_parts, leb-true, cond-true, cond-false}
 use Rattle.std.proofs.lemmas.List.{length-map}
 use Rattle.std.proofs.Math.Nat.{mul-le-mul_left}
 use Rattle.seg_base.specs.declared.shape.Shape.{Shape}
-use Rattle.seg_base.specs.declared.slot.Writer.{Writer}
-use Rattle.seg_base.specs.declared.slot.Writer.TheVariants.{By, At}
-use Rattle.seg_base.specs.Blocks.{Block}
 use Rattle.seg_base.specs.Places.{first_block, is_extent, is_shape}
 use Rattle.seg_words.specs.Types.{AllByRecursion}
 use Rattle.row_block.specs.RowPage.{RowPage}
@@ -31,14 +28,13 @@ use Rattle.redo_record.specs.declared.space.TableRecord.{TableRecord}
 use Rattle.redo_record.specs.declared.space.MovementRecord.{MovementRecord}
 use Rattle.redo_record.specs.declared.space.AdvanceRecord.{AdvanceRecord}
 use Rattle.redo_record.specs.declared.space.LowerRecord.{LowerRecord}
-use Rattle.redo_model.specs.Effects.{Step, Effect, Still, Formats, Adds, TakesBack, Cleans, effect_of, Placed, written, restored, row_step, move_step}
-use Rattle.redo_model.specs.Blocks.{block_of}
+use Rattle.redo_model.specs.Effects.{Step, Adds, effect_of, row_step, move_step}
 use Rattle.redo_model.specs.Ordinals.{txn_count}
 use Rattle.redo_model.specs.Segments.{Extent, extents_of, data_blocks, high_mark, IsTable, IsRowBlock, has_extent, extent_at, block_in, group_start, header_of}
 use Rattle.redo_model.specs.Transactions.{entry_of}
 use Rattle.redo_model.specs.AllowedRows.{MayChange, migrates_plain, migrates_again, deletes_plain, deletes_migrated, MigrateAllowed, DeleteAllowed}
 use Rattle.redo_model.specs.AllowedTransactions.{TakesEntry, takes_unused, takes_rolled_back, takes_committed}
-use Rattle.redo_model.specs.Undo.{HeldPart, held_by, undo_held}
+use Rattle.redo_model.specs.Undo.{held_by, undo_held}
 use Rattle.redo_model.specs.Steps.{standing, newest_of, undo_of_step, without_step}
 use Rattle.redo_model.specs.AllowedTables.{l2_at, StatesBitmaps}
 use Rattle.redo_model.specs.Lawful.{IsKindAllowed, AreAllowed, is_whole}
@@ -61,9 +57,7 @@ use Rattle.page_set.specs.Among.{is_among, blocks_of, back_blocks}
 use Rattle.page_set.specs.Folded.{page_of, touched, touched_by_row, those, first_of}
 use Rattle.page_set.specs.Says.{as_kept, Says}
 use Rattle.page_set.proofs.SaysLaw.{says, dba_says}
-use Rattle.page_laws.specs.Fits as laws
-use Rattle.page_laws.specs.UndoPages as kept
-use Rattle.page_laws.specs.UndoPages.{UndoTakes}
+use Rattle.page_laws.specs.Fits.{rows_named}
 use Rattle.page_laws.proofs.FitsLaw.{SomeHome, step_home, back_home, steps_fit_in_turn}
 use Rattle.page_laws.proofs.UndoLaw.{undo_takes_parts}
 use Rattle.page_laws.proofs.TxnsLaw.{InRing, in_ring}
@@ -78,7 +72,7 @@ use Rattle.page_fit.specs.Headers.{stated_header, SaysHeader}
 use Rattle.page_fit.specs.FitPages.{HasRows, IsTabled, RecordsFitPages, FormattedBlocksHaveRows}
 use Rattle.page_fit.proofs.Headed.{Standing, Headed, headed, no_wait}
 use Rattle.page_fit.proofs.Plain.{Plain, header_table, extend_header, low_plain, head_plain}
-use Rattle.page_fit.proofs.Sorted.{sort_name, after_sort, among_same, blocks_same, backs_same, pages_sorted}
+use Rattle.page_fit.proofs.Sorted.{sort_name, after_sort, among_same, pages_sorted}
 use Rattle.page_fit.proofs.HeaderApart.{header_at, data_table, home_in, first_is}
 use Rattle.page_fit.proofs.HeaderLaw.{extend_starts, high_header, model_header, headers_say}
 use Rattle.page_fit.proofs.LowPages.{IsCatalogue, catalogue_stands, IsSpace, space_stands}
@@ -179,58 +173,23 @@ is_zero (pages.Rows x) e = absurd (let z : ◌≡◌ {A = Option Sort} (Some Row
 pub the_sort : (sh : Shape) (R : List Record) (d : ℕ) (s : Sort) → AreAllowed sh R → Plain R d → sort_of sh R d ≡ s → sort_name (page_of sh R d) ≡ Some s
 the_sort sh R d s h p e = pages_sorted sh R d h p ∙ ap (λ (t : Sort). Some t) e
 
--- both speak of the same fits
-
-images_same : (ps : List Placed) (b : ℕ) (x : Block) → laws.ImagesFit ps b x → rows.ImagesFit ps b x
-images_same [] b x h = tt
-images_same (p ∷ ps) b x h = (images_same ps b x h.0, h.1)
-
-entry_same : (o : Option ℕ) (x : Block) → laws.EntryFits o x → rows.EntryFits o x
-entry_same None x h = tt
-entry_same (Some i) x h = h
-
-names_same : (ps : List RowPart) (t b : ℕ) (x : Block) → laws.NamesFit ps t b x → rows.NamesFit ps t b x
-names_same [] t b x h = tt
-names_same (p ∷ ps) t b x h = (names_same ps t b x h.0, λ e. entry_same p.entry _ (h.1 e))
-
-writer_same : (w : Writer) (ps : List RowPart) (b : ℕ) (x : Block) → laws.WriterFits w ps b x → rows.WriterFits w ps b x
-writer_same (By t) ps b x h = names_same ps t b x h
-writer_same (At c) ps b x h = tt
-
-effect_same : (e : Effect) (b : ℕ) (x : Block) → laws.EffectFits e b x → rows.EffectFits e b x
-effect_same Still b x h = h
-effect_same (Formats d) b x h = h
-effect_same (Adds st) b x h = (images_same (written st.parts) b x h.0, writer_same st.by st.parts b _ h.1)
-effect_same (TakesBack k) b x h = images_same (restored k.parts) b x h
-effect_same (Cleans d cs) b x h = h
-
-txn_same : (w : Writer) → kept.txn_of w ≡ undo.txn_of w
-txn_same (By t) = refl
-txn_same (At c) = refl
-
-part_same : (t u : ℕ) (h : HeldPart) → t ≡ u → ◌≡◌ {A = Part} (record { txn = t; previous = h.previous; dba = h.part.dba; slot = h.part.slot; parts = h.count; old = h.part.old }) (record { txn = u; previous = h.previous; dba = h.part.dba; slot = h.part.slot; parts = h.count; old = h.part.old })
-part_same t u h e = ap (λ (n : ℕ). record { txn = n; previous = h.previous; dba = h.part.dba; slot = h.part.slot; parts = h.count; old = h.part.old }) e
-
-kept_same : (hs : List HeldPart) → map kept.as_kept hs ≡ map as_kept hs
-kept_same [] = refl
-kept_same (h ∷ hs) = ap₂ (λ (x : Part) (xs : List Part). x ∷ xs) (part_same (kept.txn_of h.by) (undo.txn_of h.by) h (txn_same h.by)) (kept_same hs)
-
+-- the parts that a step keeps are those that the list says its undo block holds
 parts_same : (st : Step) (ps : List RowPart) → map as_kept (held_by st ps) ≡ undo.kept_parts (undo.txn_of st.by) st.previous (length st.parts) ps
 parts_same st [] = refl
 parts_same st (p ∷ ps) = ap (λ (xs : List Part). record { txn = undo.txn_of st.by; previous = st.previous; dba = p.dba; slot = p.slot; parts = length st.parts; old = p.old } ∷ xs) (parts_same st ps)
 
 -- the blocks that an allowed record names are plain
 
-part_in : (sh : Shape) (R : List Record) (o d : ℕ) (ps : List RowPart) → is_in d (laws.blocks_of ps) ≡ true → Every (λ (q : RowPart). IsRowBlock sh R o q.dba) ps → SomeHome sh R d
+part_in : (sh : Shape) (R : List Record) (o d : ℕ) (ps : List RowPart) → is_in d (blocks_of ps) ≡ true → Every (λ (q : RowPart). IsRowBlock sh R o q.dba) ps → SomeHome sh R d
 part_in sh R o d [] m h = absurd (true≢false (sym m))
-part_in sh R o d (q ∷ ps) m h = elim (or_cases (eqb q.dba d) (is_in d (laws.blocks_of ps)) m) [
+part_in sh R o d (q ∷ ps) m h = elim (or_cases (eqb q.dba d) (is_in d (blocks_of ps)) m) [
   | inl y ↦ (o, subst (λ (x : ℕ). IsRowBlock sh R o x) (eqb-true q.dba d y) h.0)
   | inr z ↦ part_in sh R o d ps z h.1
 ]
 
-back_in : (sh : Shape) (R : List Record) (d : ℕ) (ps : List BackPart) → is_in d (laws.back_blocks ps) ≡ true → Every (λ (q : BackPart). SomeHome sh R q.dba) ps → SomeHome sh R d
+back_in : (sh : Shape) (R : List Record) (d : ℕ) (ps : List BackPart) → is_in d (back_blocks ps) ≡ true → Every (λ (q : BackPart). SomeHome sh R q.dba) ps → SomeHome sh R d
 back_in sh R d [] m h = absurd (true≢false (sym m))
-back_in sh R d (q ∷ ps) m h = elim (or_cases (eqb q.dba d) (is_in d (laws.back_blocks ps)) m) [
+back_in sh R d (q ∷ ps) m h = elim (or_cases (eqb q.dba d) (is_in d (back_blocks ps)) m) [
   | inl y ↦ subst (SomeHome sh R) (eqb-true q.dba d y) h.0
   | inr z ↦ back_in sh R d ps z h.1
 ]
@@ -238,7 +197,7 @@ back_in sh R d (q ∷ ps) m h = elim (or_cases (eqb q.dba d) (is_in d (laws.back
 one_only : (x d : ℕ) → (eqb x d || false) ≡ true → x ≡ d
 one_only x d m = elim (or_cases (eqb x d) false m) [ inl y ↦ eqb-true x d y | inr z ↦ absurd (true≢false (sym z)) ]
 
-named_in : (sh : Shape) (R : List Record) (r : Record) (d : ℕ) → AreAllowed sh (r ∷ R) → is_in d (laws.rows_named (effect_of r)) ≡ true → SomeHome sh R d
+named_in : (sh : Shape) (R : List Record) (r : Record) (d : ℕ) → AreAllowed sh (r ∷ R) → is_in d (rows_named (effect_of r)) ≡ true → SomeHome sh R d
 named_in sh R (Insert w) d h m = part_in sh R w.obj d w.parts m (step_home sh R (Insert w) (row_step w false) h refl)
 named_in sh R (Update w) d h m = part_in sh R w.obj d w.parts m (step_home sh R (Update w) (row_step w false) h refl)
 named_in sh R (Migrate w) d h m = part_in sh R w.obj d w.parts m (step_home sh R (Migrate w) (row_step w false) h refl)
@@ -273,11 +232,11 @@ row_plain sh R o d s h stand x =
           a.no_data o d (data_table sh R o d h m) m t.is;
     }
 
-rows_plain : (sh : Shape) (R : List Record) (r : Record) (d : ℕ) → is_shape sh ≡ true → AreAllowed sh (r ∷ R) → is_in d (laws.rows_named (effect_of r)) ≡ true → Plain R d
+rows_plain : (sh : Shape) (R : List Record) (r : Record) (d : ℕ) → is_shape sh ≡ true → AreAllowed sh (r ∷ R) → is_in d (rows_named (effect_of r)) ≡ true → Plain R d
 rows_plain sh R r d s h m =
     let x = named_in sh R r d h m in
     row_plain sh R x.0 d s h.0
-    (λ p i. no_wait sh R r p h.1.called_for (λ e is. true≢false (sym m ∙ ap (λ (q : Record). is_in d (laws.rows_named (effect_of q))) is)) (headed sh R p h.0 i)) x.1
+    (λ p i. no_wait sh R r p h.1.called_for (λ e is. true≢false (sym m ∙ ap (λ (q : Record). is_in d (rows_named (effect_of q))) is)) (headed sh R p h.0 i)) x.1
 
 in_plain : (sh : Shape) (R : List Record) (d n : ℕ) (x : Option Extent) → is_shape sh ≡ true → AreAllowed sh R → n < 3 → d ≡ block_in sh x n → Plain R d
 in_plain sh R d n None s h lt e = low_plain sh R d h (λ k. omega (arith, k, e)) (λ k. omega (arith, k, e)) (omega (arith, e))
@@ -299,12 +258,12 @@ first_plain sh R o b s h m =
 -- by what a block is
 
 -- the page of a row block that the record names
-rows_fit : (sh : Shape) (R : List Record) (r : Record) (d : ℕ) (P : Page → Type 0) → is_shape sh ≡ true → AreAllowed sh (r ∷ R) → is_in d (laws.rows_named (effect_of r)) ≡ true
+rows_fit : (sh : Shape) (R : List Record) (r : Record) (d : ℕ) (P : Page → Type 0) → is_shape sh ≡ true → AreAllowed sh (r ∷ R) → is_in d (rows_named (effect_of r)) ≡ true
     → ((h : RowPage) → rows.EffectFits (effect_of r) h.dba h.block → P (pages.Rows h)) → P (page_of sh R d)
 rows_fit sh R r d P s h m f =
     let x = is_rows (page_of sh R d) (the_sort sh R d Rows h.0 (rows_plain sh R r d s h m) ((records_meet_sorts sh R r s h).rows d m)) in
     let y : Says R d (pages.Rows x.0) = subst (Says R d) x.1 (says sh R d) in
-    let fit = effect_same (effect_of r) d (block_of R d) (steps_fit_in_turn sh R r d h m) in
+    let fit = steps_fit_in_turn sh R r d h m in
     subst P (sym x.1) (f x.0 (subst (λ n. rows.EffectFits (effect_of r) n x.0.block) (sym y.0) (subst (rows.EffectFits (effect_of r) d) (sym y.1) fit)))
 
 -- the page of the undo block that a step names
@@ -315,9 +274,9 @@ undo_fit sh R r st P s h e f =
     let t = undo_takes_parts sh R r st (limits sh s).undo_from h e in
     let x = is_undo (page_of sh R d) (the_sort sh R d Undo h.0 (undo_plain sh R d h.0 t.from t.to) ((records_meet_sorts sh R r s h).undo st e)) in
     let y : Says R d (pages.Undo x.0) = subst (Says R d) x.1 (says sh R d) in
-    let old : map kept.as_kept (undo_held R d) ≡ x.0.parts = kept_same (undo_held R d) ∙ sym y.1 in
-    let new : map kept.as_kept (held_by st st.parts) ≡ undo.parts_of st = kept_same (held_by st st.parts) ∙ parts_same st st.parts in
-    let room = subst (λ (ps : List Part). used_by ps + used_by (undo.parts_of st) ≤ 4032) old (subst (λ (ps : List Part). used_by (map kept.as_kept (undo_held R d)) + used_by ps ≤ 4032) new t.fits) in
+    let old : map as_kept (undo_held R d) ≡ x.0.parts = sym y.1 in
+    let new : map as_kept (held_by st st.parts) ≡ undo.parts_of st = parts_same st st.parts in
+    let room = subst (λ (ps : List Part). used_by ps + used_by (undo.parts_of st) ≤ 4032) old (subst (λ (ps : List Part). used_by (map as_kept (undo_held R d)) + used_by ps ≤ 4032) new t.fits) in
     subst P (sym x.1) (f x.0 (sym y.0, room, subst (λ (ps : List Part). AllByRecursion HasPartForm ps) new t.forms))
 
 -- the page of the transaction table
@@ -334,7 +293,7 @@ row_fit sh R r w del d P s h e c ft fu fr m = elim (or_cases (eqb 1 d) (eqb w.un
   | inr n ↦ elim (or_cases (eqb w.undo.block d) (is_among (blocks_of w.parts) d) n) [
     | inl y ↦ subst (λ x. P (page_of sh R x)) (eqb-true w.undo.block d y) (undo_fit sh R r (row_step w del) P s h e fu)
     | inr z ↦ rows_fit sh R r d P s h
-        (ap (λ x. is_in d (laws.rows_named x)) e ∙ ap (λ (xs : List ℕ). is_in d xs) (sym (blocks_same w.parts)) ∙ sym (among_same (blocks_of w.parts) d) ∙ z) fr
+        (ap (λ x. is_in d (rows_named x)) e ∙ sym (among_same (blocks_of w.parts) d) ∙ z) fr
   ]
 ]
 
@@ -548,13 +507,13 @@ back_fit sh R k d s h m =
     let last : UndoIsBlock k.last = subst UndoIsBlock (sym a.last) (last_block sh R (without_step k.undo (standing R)) k.txn (every-filter _ _ (standing R) (in_ring sh R (limits sh s).undo_from h.0))) in
     elim (or_cases (eqb 1 d) (is_among (back_blocks k.parts) d) m) [
       | inl y ↦ subst (λ x. PageFits (Back k) (page_of sh R x)) (eqb-true 1 d y) (table_fit sh R (Back k) (PageFits (Back k)) s h refl (λ t. (entry_few sh R k.txn k.entry h.0 a.entry, last)))
-      | inr z ↦ rows_fit sh R (Back k) d (PageFits (Back k)) s h (ap (λ (xs : List ℕ). is_in d xs) (sym (backs_same k.parts)) ∙ sym (among_same (back_blocks k.parts) d) ∙ z) (λ x y. y)
+      | inr z ↦ rows_fit sh R (Back k) d (PageFits (Back k)) s h (sym (among_same (back_blocks k.parts) d) ∙ z) (λ x y. y)
     ]
 
 move_fit : (sh : Shape) (R : List Record) (v : MoveRecord) (d : ℕ) → is_shape sh ≡ true → AreAllowed sh (Move v ∷ R) → is_among (touched sh (Move v)) d ≡ true → PageFits (Move v) (page_of sh R d)
 move_fit sh R v d s h m = elim (or_cases (eqb v.undo.block d) (is_among (blocks_of v.parts) d) m) [
   | inl y ↦ subst (λ x. PageFits (Move v) (page_of sh R x)) (eqb-true v.undo.block d y) (undo_fit sh R (Move v) (move_step v) (PageFits (Move v)) s h refl (λ u x. x))
-  | inr z ↦ rows_fit sh R (Move v) d (PageFits (Move v)) s h (ap (λ (xs : List ℕ). is_in d xs) (sym (blocks_same v.parts)) ∙ sym (among_same (blocks_of v.parts) d) ∙ z) (λ x y. y)
+  | inr z ↦ rows_fit sh R (Move v) d (PageFits (Move v)) s h (sym (among_same (blocks_of v.parts) d) ∙ z) (λ x y. y)
 ]
 
 -- records of tables

@@ -5,8 +5,6 @@ use Rattle.seg_base.specs.declared.shape.Shape.{Shape}
 use Rattle.redo_record.specs.declared.record.Record.{Record}
 use Rattle.redo_record.specs.declared.record.Record.TheVariants.{Table, Movement, Extend, FormatBlock, Class, Advance, Lower, Begin, Reuse, Insert, Update, Migrate, Return, Delete, Commit, Back, Ended, Move, Clean}
 use Rattle.redo_record.specs.declared.space.ExtendRecord.{ExtendRecord}
-use Rattle.redo_record.specs.declared.part.RowPart.{RowPart}
-use Rattle.redo_record.specs.declared.part.BackPart.{BackPart}
 use Rattle.page_set.specs.declared.page.Page.{Page}
 use Rattle.page_set.specs.declared.page.Page.TheVariants as pages
 use Rattle.page_set.specs.Pages.{dba_of, new_second, new_third, new_first, new_rows, new_undo}
@@ -17,8 +15,7 @@ use Rattle.page_set.specs.Folded.{touched, page_of}
 use Rattle.page_set.proofs.SaysLaw.{says, dba_says}
 use Rattle.redo_model.specs.Lawful.{AreAllowed}
 use Rattle.redo_laws.specs.Among.{is_in}
-use Rattle.page_laws.specs.Fits as laws
-use Rattle.sort_laws.specs.Touched as touching
+use Rattle.page_model.specs.Types.{touched_sorts}
 use Rattle.sort_laws.specs.Sorts.{Sort, Blank, Rows, Undo, Txns, First, Second, Third, as_txns, sort_after, sort_of}
 use Rattle.page_fit.proofs.Plain.{Plain, plain_before, extend_plain}
 
@@ -41,14 +38,6 @@ sort_name (pages.Rows x) = Some Rows
 pub among_same : (xs : List ℕ) (d : ℕ) → folded.is_among xs d ≡ is_in d xs
 among_same [] d = refl
 among_same (x ∷ xs) d = ap (λ v. eqb x d || v) (among_same xs d)
-
-pub blocks_same : (ps : List RowPart) → folded.blocks_of ps ≡ laws.blocks_of ps
-blocks_same [] = refl
-blocks_same (p ∷ ps) = ap (λ bs. p.dba ∷ bs) (blocks_same ps)
-
-pub backs_same : (ps : List BackPart) → folded.back_blocks ps ≡ laws.back_blocks ps
-backs_same [] = refl
-backs_same (p ∷ ps) = ap (λ bs. p.dba ∷ bs) (backs_same ps)
 
 pub after_sort : (r : Record) (lsn : ℕ) (p : Page) → sort_name (page_after r lsn p) ≡ sort_name p
 after_sort r lsn (pages.Zero x) = refl
@@ -107,64 +96,58 @@ extent_sort e lsn d p s dba three header k =
 pub no_among : (x : ℕ) (xs : List ℕ) (d : ℕ) → (d ≡ x → ⊥) → folded.is_among (x ∷ xs) d ≡ folded.is_among xs d
 no_among x xs d h = ap (λ (b : Bool). b || folded.is_among xs d) (ne_eqb x d (λ e. h (sym e)))
 
-row_same : (u : ℕ) (ps : List RowPart) (d : ℕ) → folded.is_among (1 ∷ u ∷ folded.blocks_of ps) d ≡ is_in d (1 ∷ u ∷ laws.blocks_of ps)
-row_same u ps d = among_same (1 ∷ u ∷ folded.blocks_of ps) d ∙ ap (λ (bs : List ℕ). is_in d (1 ∷ u ∷ bs)) (blocks_same ps)
-
--- a record that makes no page anew
-plain_step : (sh : Shape) (R : List Record) (r : Record) (d : ℕ) → folded.is_among (touched sh r) d ≡ is_in d (touching.touched sh r) → started r (suc (length R)) (page_of sh R d) ≡ None → sort_after r d (sort_of sh R d) ≡ sort_of sh R d
-    → sort_name (page_of sh R d) ≡ Some (sort_of sh R d) → sort_name (page_of sh (r ∷ R) d) ≡ Some (sort_of sh (r ∷ R) d)
-plain_step sh R r d same none sort k =
-    let p = page_of sh R d in
-    step_sort (folded.is_among (touched sh r) d) (is_in d (touching.touched sh r)) p (changed_page r (suc (length R)) p) (sort_of sh R d) (sort_after r d (sort_of sh R d)) same
-    (after_sort r (suc (length R)) (start r (suc (length R)) p) ∙ ap (λ (o : Option Page). sort_name (or_kept o p)) none ∙ k ∙ ap (λ (t : Sort). Some t) (sym sort)) k
-
--- a record that touches none of the blocks that have sorts
-other_step : (sh : Shape) (R : List Record) (r : Record) (d : ℕ) → started r (suc (length R)) (page_of sh R d) ≡ None → touching.touched sh r ≡ [] → sort_name (page_of sh R d) ≡ Some (sort_of sh R d) → sort_name (page_of sh (r ∷ R) d) ≡ Some (sort_of sh (r ∷ R) d)
-other_step sh R r d none quiet k =
+-- a record that makes no page anew and leaves sorts as they are
+plain_step : (sh : Shape) (R : List Record) (r : Record) (d : ℕ) → started r (suc (length R)) (page_of sh R d) ≡ None → sort_after r d (sort_of sh R d) ≡ sort_of sh R d → sort_name (page_of sh R d) ≡ Some (sort_of sh R d)
+    → sort_name (page_of sh (r ∷ R) d) ≡ Some (sort_of sh (r ∷ R) d)
+plain_step sh R r d none sort k =
     let p = page_of sh R d in
     ap (λ (o : Option Page). sort_name (cond (folded.is_among (touched sh r) d) (page_after r (suc (length R)) (or_kept o p)) p)) none
     ∙ kept_sort r (suc (length R)) (folded.is_among (touched sh r) d) p (sort_of sh R d) k
-    ∙ ap (λ (xs : List ℕ). Some (cond (is_in d xs) (sort_after r d (sort_of sh R d)) (sort_of sh R d))) (sym quiet)
+    ∙ ap (λ (t : Sort). Some t) (sym (either (is_in d (touched_sorts sh r)) (sort_after r d (sort_of sh R d)) (sort_of sh R d) sort))
+  where
+    either : (b : Bool) (t s : Sort) → t ≡ s → cond b t s ≡ s
+    either true t s e = e
+    either false t s e = refl
 
 sorted_kind : (sh : Shape) (R : List Record) (r : Record) (d : ℕ) → AreAllowed sh (r ∷ R) → Plain (r ∷ R) d → dba_of (page_of sh R d) ≡ d → sort_name (page_of sh R d) ≡ Some (sort_of sh R d) → sort_name (page_of sh (r ∷ R) d) ≡ Some (sort_of sh (r ∷ R) d)
 sorted_kind sh R (Table t) d h p dba k =
     ap (λ (b : Bool). sort_name (cond b (changed_page (Table t) (suc (length R)) (page_of sh R d)) (page_of sh R d)))
     (no_among 2 (t.header ∷ []) d p.no_catalogue ∙ no_among t.header [] d (λ e. p.no_header (or_left (eqb t.header d) _ (eq-eqb t.header d (sym e))))) ∙ k
-sorted_kind sh R (Movement m) d h p dba k = other_step sh R (Movement m) d refl refl k
-sorted_kind sh R (Advance m) d h p dba k = other_step sh R (Advance m) d refl refl k
-sorted_kind sh R (Lower m) d h p dba k = other_step sh R (Lower m) d refl refl k
+sorted_kind sh R (Movement m) d h p dba k = plain_step sh R (Movement m) d refl refl k
+sorted_kind sh R (Advance m) d h p dba k = plain_step sh R (Advance m) d refl refl k
+sorted_kind sh R (Lower m) d h p dba k = plain_step sh R (Lower m) d refl refl k
 sorted_kind sh R (Extend e) d h p dba k =
     let q = page_of sh R d in
     let lsn = suc (length R) in
-    step_sort (folded.is_among (touched sh (Extend e)) d) (is_in d (touching.touched sh (Extend e))) q (changed_page (Extend e) lsn q) (sort_of sh R d) (sort_after (Extend e) d (sort_of sh R d))
-    (no_among 3 (e.header ∷ touching.touched sh (Extend e)) d p.no_space ∙ no_among e.header (touching.touched sh (Extend e)) d (extend_plain sh R e d h p) ∙ among_same (touching.touched sh (Extend e)) d)
+    step_sort (folded.is_among (touched sh (Extend e)) d) (is_in d (touched_sorts sh (Extend e))) q (changed_page (Extend e) lsn q) (sort_of sh R d) (sort_after (Extend e) d (sort_of sh R d))
+    (no_among 3 (e.header ∷ touched_sorts sh (Extend e)) d p.no_space ∙ no_among e.header (touched_sorts sh (Extend e)) d (extend_plain sh R e d h p) ∙ among_same (touched_sorts sh (Extend e)) d)
     (after_sort (Extend e) lsn (start (Extend e) lsn q) ∙ extent_sort e lsn d q (sort_of sh R d) dba p.no_space (extend_plain sh R e d h p) k) k
 sorted_kind sh R (FormatBlock f) d h p dba k =
     let q = page_of sh R d in
-    step_sort (folded.is_among (touched sh (FormatBlock f)) d) (is_in d (touching.touched sh (FormatBlock f))) q (changed_page (FormatBlock f) (suc (length R)) q) (sort_of sh R d) (sort_after (FormatBlock f) d (sort_of sh R d))
+    step_sort (folded.is_among (touched sh (FormatBlock f)) d) (is_in d (touched_sorts sh (FormatBlock f))) q (changed_page (FormatBlock f) (suc (length R)) q) (sort_of sh R d) (sort_after (FormatBlock f) d (sort_of sh R d))
     (among_same (touched sh (FormatBlock f)) d)
     (after_sort (FormatBlock f) (suc (length R)) (start (FormatBlock f) (suc (length R)) q) ∙ made_sort (eqb f.dba (dba_of q)) q (new_rows (dba_of q)) (sort_of sh R d) Rows refl k ∙ ap (λ (n : ℕ). Some (cond (eqb f.dba n) Rows (sort_of sh R d))) dba) k
 sorted_kind sh R (Reuse f) d h p dba k =
     let q = page_of sh R d in
-    step_sort (folded.is_among (touched sh (Reuse f)) d) (is_in d (touching.touched sh (Reuse f))) q (changed_page (Reuse f) (suc (length R)) q) (sort_of sh R d) (sort_after (Reuse f) d (sort_of sh R d))
+    step_sort (folded.is_among (touched sh (Reuse f)) d) (is_in d (touched_sorts sh (Reuse f))) q (changed_page (Reuse f) (suc (length R)) q) (sort_of sh R d) (sort_after (Reuse f) d (sort_of sh R d))
     (among_same (touched sh (Reuse f)) d)
     (after_sort (Reuse f) (suc (length R)) (start (Reuse f) (suc (length R)) q) ∙ made_sort (eqb f.block (dba_of q)) q (new_undo (dba_of q) f.sequence) (sort_of sh R d) Undo refl k ∙ ap (λ (n : ℕ). Some (cond (eqb f.block n) Undo (sort_of sh R d))) dba) k
 sorted_kind sh R (Begin g) d h p dba k =
     let q = page_of sh R d in
-    step_sort (folded.is_among (touched sh (Begin g)) d) (is_in d (touching.touched sh (Begin g))) q (changed_page (Begin g) (suc (length R)) q) (sort_of sh R d) (sort_after (Begin g) d (sort_of sh R d))
+    step_sort (folded.is_among (touched sh (Begin g)) d) (is_in d (touched_sorts sh (Begin g))) q (changed_page (Begin g) (suc (length R)) q) (sort_of sh R d) (sort_after (Begin g) d (sort_of sh R d))
     (among_same (touched sh (Begin g)) d)
     (after_sort (Begin g) (suc (length R)) (start (Begin g) (suc (length R)) q) ∙ begun_sort q (sort_of sh R d) k) k
-sorted_kind sh R (Insert w) d h p dba k = plain_step sh R (Insert w) d (row_same w.undo.block w.parts d) refl refl k
-sorted_kind sh R (Update w) d h p dba k = plain_step sh R (Update w) d (row_same w.undo.block w.parts d) refl refl k
-sorted_kind sh R (Migrate w) d h p dba k = plain_step sh R (Migrate w) d (row_same w.undo.block w.parts d) refl refl k
-sorted_kind sh R (Return w) d h p dba k = plain_step sh R (Return w) d (row_same w.undo.block w.parts d) refl refl k
-sorted_kind sh R (Delete w) d h p dba k = plain_step sh R (Delete w) d (row_same w.undo.block w.parts d) refl refl k
-sorted_kind sh R (Class w) d h p dba k = plain_step sh R (Class w) d (among_same (touched sh (Class w)) d) refl refl k
-sorted_kind sh R (Commit w) d h p dba k = plain_step sh R (Commit w) d (among_same (touched sh (Commit w)) d) refl refl k
-sorted_kind sh R (Ended w) d h p dba k = plain_step sh R (Ended w) d (among_same (touched sh (Ended w)) d) refl refl k
-sorted_kind sh R (Clean w) d h p dba k = plain_step sh R (Clean w) d (among_same (touched sh (Clean w)) d) refl refl k
-sorted_kind sh R (Back w) d h p dba k = plain_step sh R (Back w) d (among_same (1 ∷ folded.back_blocks w.parts) d ∙ ap (λ (bs : List ℕ). is_in d (1 ∷ bs)) (backs_same w.parts)) refl refl k
-sorted_kind sh R (Move m) d h p dba k = plain_step sh R (Move m) d (among_same (m.undo.block ∷ folded.blocks_of m.parts) d ∙ ap (λ (bs : List ℕ). is_in d (m.undo.block ∷ bs)) (blocks_same m.parts)) refl refl k
+sorted_kind sh R (Insert w) d h p dba k = plain_step sh R (Insert w) d refl refl k
+sorted_kind sh R (Update w) d h p dba k = plain_step sh R (Update w) d refl refl k
+sorted_kind sh R (Migrate w) d h p dba k = plain_step sh R (Migrate w) d refl refl k
+sorted_kind sh R (Return w) d h p dba k = plain_step sh R (Return w) d refl refl k
+sorted_kind sh R (Delete w) d h p dba k = plain_step sh R (Delete w) d refl refl k
+sorted_kind sh R (Class w) d h p dba k = plain_step sh R (Class w) d refl refl k
+sorted_kind sh R (Commit w) d h p dba k = plain_step sh R (Commit w) d refl refl k
+sorted_kind sh R (Ended w) d h p dba k = plain_step sh R (Ended w) d refl refl k
+sorted_kind sh R (Clean w) d h p dba k = plain_step sh R (Clean w) d refl refl k
+sorted_kind sh R (Back w) d h p dba k = plain_step sh R (Back w) d refl refl k
+sorted_kind sh R (Move m) d h p dba k = plain_step sh R (Move m) d refl refl k
 
 pub pages_sorted : (sh : Shape) (R : List Record) (d : ℕ) → AreAllowed sh R → Plain R d → sort_name (page_of sh R d) ≡ Some (sort_of sh R d)
 pages_sorted sh [] d h p = refl

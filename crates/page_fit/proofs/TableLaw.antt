@@ -48,26 +48,27 @@ use Rattle.page_set.specs.Folded.{touched, page_of}
 use Rattle.redo_record.specs.declared.space.TableRecord.{TableRecord}
 use Rattle.sort_laws.proofs.MeetsLaw.{table_counts, step_begun, all_empty, called_step}
 use Rattle.sort_laws.proofs.SortsLaw.{sorts_are_made}
-use Rattle.page_fit.specs.Tables.{over_as, told_entry, TableSays, TablesSay}
+use Rattle.page_model.specs.Types.{outcome_when_over, entry_used_by, HoldsTable}
+use Rattle.page_fit.specs.Tables.{TablesSay}
 use Rattle.page_fit.proofs.Sorted.{sort_name, pages_sorted}
 use Rattle.page_fit.proofs.FitLaw.{one_plain, may_migrate, may_delete, taken_entry}
 use Rattle.sort_laws.specs.Sorts.{Sort, Blank, Txns, sort_of}
 
 -- entries
 
-told_same : (S R : List Record) (o : Option ℕ) → ((t : ℕ) → o ≡ Some t → (is_active S t ≡ is_active R t) × (commit_number S t ≡ commit_number R t) × (last_undo S t ≡ last_undo R t)) → told_entry S o ≡ told_entry R o
+told_same : (S R : List Record) (o : Option ℕ) → ((t : ℕ) → o ≡ Some t → (is_active S t ≡ is_active R t) × (commit_number S t ≡ commit_number R t) × (last_undo S t ≡ last_undo R t)) → entry_used_by S o ≡ entry_used_by R o
 told_same S R None h = refl
 told_same S R (Some t) h =
     let k = h t refl in
-    ap₂ (λ (o : Outcome) (u : Option UndoAddr). Used (record { txn = t; outcome = o; last_undo = u })) (ap₂ (λ b c. cond b Active (over_as c)) k.0 k.1) k.2
+    ap₂ (λ (o : Outcome) (u : Option UndoAddr). Used (record { txn = t; outcome = o; last_undo = u })) (ap₂ (λ b c. cond b Active (outcome_when_over c)) k.0 k.1) k.2
 
 -- a table with entry i written anew says it of S, where the other users are told as before
-written : (S : List Record) (es : List TableEntry) (i : ℕ) (e : TableEntry) → length es ≡ 96 → i < 96 → e ≡ told_entry S (user_of S i) → ((j : ℕ) → j < 96 → (j ≡ i → ⊥) → get_or es j Unused ≡ told_entry S (user_of S j))
-    → (j : ℕ) → j < 96 → get_or (set es i e) j Unused ≡ told_entry S (user_of S j)
+written : (S : List Record) (es : List TableEntry) (i : ℕ) (e : TableEntry) → length es ≡ 96 → i < 96 → e ≡ entry_used_by S (user_of S i) → ((j : ℕ) → j < 96 → (j ≡ i → ⊥) → get_or es j Unused ≡ entry_used_by S (user_of S j))
+    → (j : ℕ) → j < 96 → get_or (set es i e) j Unused ≡ entry_used_by S (user_of S j)
 written S es i e n l h k j m = elim (cases_Bool (eqb j i)) [
   | inl y ↦
       let same : j ≡ i = eqb-true j i y in
-      subst (λ x. get_or (set es i e) x Unused ≡ told_entry S (user_of S x)) (sym same) (get_or-set_same es i e Unused (omega (arith, n, l)) ∙ h)
+      subst (λ x. get_or (set es i e) x Unused ≡ entry_used_by S (user_of S x)) (sym same) (get_or-set_same es i e Unused (omega (arith, n, l)) ∙ h)
   | inr f ↦ get_or-set_other es i j e Unused (eqb-false j i f) ∙ k j m (eqb-false j i f)
 ]
 
@@ -95,15 +96,15 @@ other_user R t i j u o n e = ne_eqb t u (λ x. n (o.only j (e ∙ ap (λ (z : �
 
 row_says : (R : List Record) (r : Record) (w : RowBody) (del : Bool) (t : TxnTable) (lsn : ℕ) → Known R → is_active R w.txn ≡ true → entry_of R w.txn ≡ Some w.entry
     → ((u : ℕ) → (is_active (r ∷ R) u ≡ is_active R u) × (commit_number (r ∷ R) u ≡ commit_number R u) × (last_undo (r ∷ R) u ≡ undo_of_step (cond (eqb w.txn u) (Some (row_step w del)) (newest_of (standing R) u)))) → ((i : ℕ) → user_of (r ∷ R) i ≡ user_of R i)
-    → length t.entries ≡ 96 → ((i : ℕ) → i < 96 → get_or t.entries i Unused ≡ told_entry R (user_of R i))
-    → (j : ℕ) → j < 96 → get_or (set t.entries w.entry (Used (record { txn = w.txn; outcome = Active; last_undo = Some w.undo }))) j Unused ≡ told_entry (r ∷ R) (user_of (r ∷ R) j)
+    → length t.entries ≡ 96 → ((i : ℕ) → i < 96 → get_or t.entries i Unused ≡ entry_used_by R (user_of R i))
+    → (j : ℕ) → j < 96 → get_or (set t.entries w.entry (Used (record { txn = w.txn; outcome = Active; last_undo = Some w.undo }))) j Unused ≡ entry_used_by (r ∷ R) (user_of (r ∷ R) j)
 row_says R r w del t lsn k on e same users n h =
     let o = own_of R w.txn w.entry k on e in
     let x = same w.txn in
-    let mine : told_entry (r ∷ R) (Some w.txn) ≡ Used (record { txn = w.txn; outcome = Active; last_undo = Some w.undo }) =
+    let mine : entry_used_by (r ∷ R) (Some w.txn) ≡ Used (record { txn = w.txn; outcome = Active; last_undo = Some w.undo }) =
     ap₂ (λ (b : Outcome) (u : Option UndoAddr). Used (record { txn = w.txn; outcome = b; last_undo = u })) (cond-true _ _ _ (x.0 ∙ on)) (x.2 ∙ ap undo_of_step (cond-true _ _ _ (eq-eqb w.txn w.txn refl))) in
-    written (r ∷ R) t.entries w.entry _ n o.few (sym (ap (told_entry (r ∷ R)) (users w.entry ∙ o.user) ∙ mine))
-    (λ j m ne. h j m ∙ sym (ap (told_entry (r ∷ R)) (users j) ∙ told_same (r ∷ R) R (user_of R j) (λ u q.
+    written (r ∷ R) t.entries w.entry _ n o.few (sym (ap (entry_used_by (r ∷ R)) (users w.entry ∙ o.user) ∙ mine))
+    (λ j m ne. h j m ∙ sym (ap (entry_used_by (r ∷ R)) (users j) ∙ told_same (r ∷ R) R (user_of R j) (λ u q.
     let y = same u in
     let off = other_user R w.txn w.entry j u o ne q in
     (y.0, y.1, y.2 ∙ ap undo_of_step (cond-false _ _ _ off)))))
@@ -151,90 +152,90 @@ no_current sh (r ∷ R) h n = elim (no_current sh R h.0 n) [
 -- one record
 
 still_says : (R : List Record) (r : Record) (t : TxnTable) (lsn : ℕ) → control_number (r ∷ R) ≡ control_number R → txn_count (r ∷ R) ≡ txn_count R → row_count (r ∷ R) ≡ row_count R → current_undo (r ∷ R) ≡ current_undo R
-    → ((i : ℕ) → user_of (r ∷ R) i ≡ user_of R i) → ((u : ℕ) → (is_active (r ∷ R) u ≡ is_active R u) × (commit_number (r ∷ R) u ≡ commit_number R u) × (last_undo (r ∷ R) u ≡ last_undo R u)) → TableSays R t → TableSays (r ∷ R) (record t { lsn = lsn })
+    → ((i : ℕ) → user_of (r ∷ R) i ≡ user_of R i) → ((u : ℕ) → (is_active (r ∷ R) u ≡ is_active R u) × (commit_number (r ∷ R) u ≡ commit_number R u) × (last_undo (r ∷ R) u ≡ last_undo R u)) → HoldsTable R t → HoldsTable (r ∷ R) (record t { lsn = lsn })
 still_says R r t lsn c n w u users same h = record {
   control = h.control ∙ sym c;
   last_txn = h.last_txn ∙ sym n;
   last_row = h.last_row ∙ sym w;
   current = h.current ∙ sym u;
-  many = h.many;
-  entry = λ i m. h.entry i m ∙ sym (ap (told_entry (r ∷ R)) (users i) ∙ told_same (r ∷ R) R (user_of R i) (λ x e. same x));
+  count = h.count;
+  entries = λ i m. h.entries i m ∙ sym (ap (entry_used_by (r ∷ R)) (users i) ∙ told_same (r ∷ R) R (user_of R i) (λ x e. same x));
 }
 
-reuse_says : (R : List Record) (q : ReuseRecord) (t : TxnTable) (lsn : ℕ) → TableSays R t → TableSays (Reuse q ∷ R) (txns_after (Reuse q) lsn t)
+reuse_says : (R : List Record) (q : ReuseRecord) (t : TxnTable) (lsn : ℕ) → HoldsTable R t → HoldsTable (Reuse q ∷ R) (txns_after (Reuse q) lsn t)
 reuse_says R q t lsn h = record {
   control = h.control;
   last_txn = h.last_txn;
   last_row = h.last_row;
   current = refl;
-  many = h.many;
-  entry = λ i m. h.entry i m ∙ sym (told_same (Reuse q ∷ R) R (user_of R i) (λ x e. (refl, refl, refl)));
+  count = h.count;
+  entries = λ i m. h.entries i m ∙ sym (told_same (Reuse q ∷ R) R (user_of R i) (λ x e. (refl, refl, refl)));
 }
 
-insert_says : (R : List Record) (w : RowBody) (t : TxnTable) (lsn : ℕ) → Known R → is_active R w.txn ≡ true → entry_of R w.txn ≡ Some w.entry → w.row ≡ suc (row_count R) → TableSays R t → TableSays (Insert w ∷ R) (txns_after (Insert w) lsn t)
+insert_says : (R : List Record) (w : RowBody) (t : TxnTable) (lsn : ℕ) → Known R → is_active R w.txn ≡ true → entry_of R w.txn ≡ Some w.entry → w.row ≡ suc (row_count R) → HoldsTable R t → HoldsTable (Insert w ∷ R) (txns_after (Insert w) lsn t)
 insert_says R w t lsn k on e row h = record {
   control = h.control;
   last_txn = h.last_txn;
   last_row = row;
   current = h.current;
-  many = length-set t.entries w.entry _ ∙ h.many;
-  entry = row_says R (Insert w) w false t lsn k on e (λ u. (refl, refl, refl)) (λ i. refl) h.many h.entry;
+  count = length-set t.entries w.entry _ ∙ h.count;
+  entries = row_says R (Insert w) w false t lsn k on e (λ u. (refl, refl, refl)) (λ i. refl) h.count h.entries;
 }
 
 row_kind_says : (R : List Record) (r : Record) (w : RowBody) (del : Bool) (t : TxnTable) (lsn : ℕ) → Known R → is_active R w.txn ≡ true → entry_of R w.txn ≡ Some w.entry
     → control_number (r ∷ R) ≡ control_number R → txn_count (r ∷ R) ≡ txn_count R → row_count (r ∷ R) ≡ row_count R → current_undo (r ∷ R) ≡ current_undo R
     → ((u : ℕ) → (is_active (r ∷ R) u ≡ is_active R u) × (commit_number (r ∷ R) u ≡ commit_number R u) × (last_undo (r ∷ R) u ≡ undo_of_step (cond (eqb w.txn u) (Some (row_step w del)) (newest_of (standing R) u)))) → ((i : ℕ) → user_of (r ∷ R) i ≡ user_of R i)
-    → TableSays R t → TableSays (r ∷ R) (record (with_entry t w.entry w.txn Active (Some w.undo)) { lsn = lsn })
+    → HoldsTable R t → HoldsTable (r ∷ R) (record (with_entry t w.entry w.txn Active (Some w.undo)) { lsn = lsn })
 row_kind_says R r w del t lsn k on e c n rows u same users h = record {
   control = h.control ∙ sym c;
   last_txn = h.last_txn ∙ sym n;
   last_row = h.last_row ∙ sym rows;
   current = h.current ∙ sym u;
-  many = length-set t.entries w.entry _ ∙ h.many;
-  entry = row_says R r w del t lsn k on e same users h.many h.entry;
+  count = length-set t.entries w.entry _ ∙ h.count;
+  entries = row_says R r w del t lsn k on e same users h.count h.entries;
 }
 
 -- the last undo that an entry keeps
-kept_undo : (R : List Record) (t : TxnTable) (x i : ℕ) → TableSays R t → i < 96 → user_of R i ≡ Some x → undo_at t i ≡ last_undo R x
+kept_undo : (R : List Record) (t : TxnTable) (x i : ℕ) → HoldsTable R t → i < 96 → user_of R i ≡ Some x → undo_at t i ≡ last_undo R x
 kept_undo R t x i h l u =
-    let n = h.many in
-    ap undo_told (slice_get-get_or t.entries i Unused (omega (arith, n, l))) ∙ ap (λ (e : TableEntry). undo_told (Some e)) (h.entry i l ∙ ap (told_entry R) u)
+    let n = h.count in
+    ap undo_told (slice_get-get_or t.entries i Unused (omega (arith, n, l))) ∙ ap (λ (e : TableEntry). undo_told (Some e)) (h.entries i l ∙ ap (entry_used_by R) u)
 
-commit_says : (R : List Record) (c : CommitRecord) (t : TxnTable) (lsn : ℕ) → Known R → CommitAllowed R c → TableSays R t → TableSays (Commit c ∷ R) (txns_after (Commit c) lsn t)
+commit_says : (R : List Record) (c : CommitRecord) (t : TxnTable) (lsn : ℕ) → Known R → CommitAllowed R c → HoldsTable R t → HoldsTable (Commit c ∷ R) (txns_after (Commit c) lsn t)
 commit_says R c t lsn k a h =
     let o = own_of R c.txn c.entry k a.active a.entry in
     let self : eqb c.txn c.txn ≡ true = eq-eqb c.txn c.txn refl in
     let ended : is_active (Commit c ∷ R) c.txn ≡ false = ap (λ v. not v && is_active R c.txn) self in
     let number : commit_number (Commit c ∷ R) c.txn ≡ Some c.number = cond-true _ _ _ self ∙ ap (λ (n : ℕ). Some n) (sym a.number) in
-    let mine : told_entry (Commit c ∷ R) (Some c.txn) ≡ Used (record { txn = c.txn; outcome = Committed c.number; last_undo = undo_at t c.entry }) =
-    ap₂ (λ (b : Outcome) (u : Option UndoAddr). Used (record { txn = c.txn; outcome = b; last_undo = u })) (cond-false _ _ _ ended ∙ ap over_as number) (sym (kept_undo R t c.txn c.entry h o.few o.user)) in
+    let mine : entry_used_by (Commit c ∷ R) (Some c.txn) ≡ Used (record { txn = c.txn; outcome = Committed c.number; last_undo = undo_at t c.entry }) =
+    ap₂ (λ (b : Outcome) (u : Option UndoAddr). Used (record { txn = c.txn; outcome = b; last_undo = u })) (cond-false _ _ _ ended ∙ ap outcome_when_over number) (sym (kept_undo R t c.txn c.entry h o.few o.user)) in
     record {
       control = h.control;
       last_txn = h.last_txn;
       last_row = h.last_row;
       current = h.current;
-      many = length-set t.entries c.entry _ ∙ h.many;
-      entry = written (Commit c ∷ R) t.entries c.entry _ h.many o.few (sym (ap (told_entry (Commit c ∷ R)) o.user ∙ mine))
-          (λ j m ne. h.entry j m ∙ sym (told_same (Commit c ∷ R) R (user_of R j) (λ u q.
+      count = length-set t.entries c.entry _ ∙ h.count;
+      entries = written (Commit c ∷ R) t.entries c.entry _ h.count o.few (sym (ap (entry_used_by (Commit c ∷ R)) o.user ∙ mine))
+          (λ j m ne. h.entries j m ∙ sym (told_same (Commit c ∷ R) R (user_of R j) (λ u q.
           let off = other_user R c.txn c.entry j u o ne q in
           (ap (λ v. not v && is_active R u) off, cond-false _ _ _ off, refl))));
     }
 
-ended_says : (R : List Record) (x : EndedRecord) (t : TxnTable) (lsn : ℕ) → Known R → EndedAllowed R x → TableSays R t → TableSays (Ended x ∷ R) (txns_after (Ended x) lsn t)
+ended_says : (R : List Record) (x : EndedRecord) (t : TxnTable) (lsn : ℕ) → Known R → EndedAllowed R x → HoldsTable R t → HoldsTable (Ended x ∷ R) (txns_after (Ended x) lsn t)
 ended_says R x t lsn k a h =
     let o = own_of R x.txn x.entry k a.active a.entry in
     let self : eqb x.txn x.txn ≡ true = eq-eqb x.txn x.txn refl in
     let ended : is_active (Ended x ∷ R) x.txn ≡ false = ap (λ v. not v && is_active R x.txn) self in
-    let mine : told_entry (Ended x ∷ R) (Some x.txn) ≡ Used (record { txn = x.txn; outcome = RolledBack; last_undo = undo_at t x.entry }) =
-    ap₂ (λ (b : Outcome) (u : Option UndoAddr). Used (record { txn = x.txn; outcome = b; last_undo = u })) (cond-false _ _ _ ended ∙ ap over_as (no_number (commit_number R x.txn) refl)) (sym (kept_undo R t x.txn x.entry h o.few o.user)) in
+    let mine : entry_used_by (Ended x ∷ R) (Some x.txn) ≡ Used (record { txn = x.txn; outcome = RolledBack; last_undo = undo_at t x.entry }) =
+    ap₂ (λ (b : Outcome) (u : Option UndoAddr). Used (record { txn = x.txn; outcome = b; last_undo = u })) (cond-false _ _ _ ended ∙ ap outcome_when_over (no_number (commit_number R x.txn) refl)) (sym (kept_undo R t x.txn x.entry h o.few o.user)) in
     record {
       control = h.control;
       last_txn = h.last_txn;
       last_row = h.last_row;
       current = h.current;
-      many = length-set t.entries x.entry _ ∙ h.many;
-      entry = written (Ended x ∷ R) t.entries x.entry _ h.many o.few (sym (ap (told_entry (Ended x ∷ R)) o.user ∙ mine))
-          (λ j m ne. h.entry j m ∙ sym (told_same (Ended x ∷ R) R (user_of R j) (λ u q.
+      count = length-set t.entries x.entry _ ∙ h.count;
+      entries = written (Ended x ∷ R) t.entries x.entry _ h.count o.few (sym (ap (entry_used_by (Ended x ∷ R)) o.user ∙ mine))
+          (λ j m ne. h.entries j m ∙ sym (told_same (Ended x ∷ R) R (user_of R j) (λ u q.
           let off = other_user R x.txn x.entry j u o ne q in
           (ap (λ v. not v && is_active R u) off, refl, refl))));
     }
@@ -255,20 +256,20 @@ newest_without a v u (s ∷ ss) n h =
     apart (By x) e = ne_eqb x u (λ y. n (sym y ∙ eqb-true x v e))
     apart (At x) e = refl
 
-back_says : (sh : Shape) (R : List Record) (k : BackRecord) (t : TxnTable) (lsn : ℕ) → AreAllowed sh R → Known R → BackAllowed R k → TableSays R t → TableSays (Back k ∷ R) (txns_after (Back k) lsn t)
+back_says : (sh : Shape) (R : List Record) (k : BackRecord) (t : TxnTable) (lsn : ℕ) → AreAllowed sh R → Known R → BackAllowed R k → HoldsTable R t → HoldsTable (Back k ∷ R) (txns_after (Back k) lsn t)
 back_says sh R k t lsn al w a h =
     let o = own_of R k.txn k.entry w a.active a.entry in
     let top : Tops k.undo k.txn (standing R) = subst (λ x. Tops x k.txn (standing R)) (sym a.undo) (tops (standing R) k.txn a.step (good sh R (whole sh R al).fit).held.distinct a.newest) in
-    let mine : told_entry (Back k ∷ R) (Some k.txn) ≡ Used (record { txn = k.txn; outcome = Active; last_undo = k.last }) =
+    let mine : entry_used_by (Back k ∷ R) (Some k.txn) ≡ Used (record { txn = k.txn; outcome = Active; last_undo = k.last }) =
     ap₂ (λ (b : Outcome) (u : Option UndoAddr). Used (record { txn = k.txn; outcome = b; last_undo = u })) (cond-true _ _ _ a.active) (sym a.last) in
     record {
       control = h.control;
       last_txn = h.last_txn;
       last_row = h.last_row;
       current = h.current;
-      many = length-set t.entries k.entry _ ∙ h.many;
-      entry = written (Back k ∷ R) t.entries k.entry _ h.many o.few (sym (ap (told_entry (Back k ∷ R)) o.user ∙ mine))
-          (λ j m ne. h.entry j m ∙ sym (told_same (Back k ∷ R) R (user_of R j) (λ u q.
+      count = length-set t.entries k.entry _ ∙ h.count;
+      entries = written (Back k ∷ R) t.entries k.entry _ h.count o.few (sym (ap (entry_used_by (Back k ∷ R)) o.user ∙ mine))
+          (λ j m ne. h.entries j m ∙ sym (told_same (Back k ∷ R) R (user_of R j) (λ u q.
           (refl, refl, ap undo_of_step (newest_without k.undo k.txn u (standing R) (λ x. ne (o.only j (q ∙ ap (λ (z : ℕ). Some z) x))) top)))));
     }
 
@@ -280,22 +281,22 @@ no_newest n t (s ∷ ss) l h = cond-false _ _ _ (later s.by h.0) ∙ no_newest n
     later (By u) b = ne_eqb u t (λ e. absurd (omega (arith, b, e, l)))
     later (At c) b = refl
 
-begin_says : (sh : Shape) (R : List Record) (g : BeginRecord) (t : TxnTable) (lsn : ℕ) → AreAllowed sh R → Known R → BeginAllowed R g → g.entry < 96 → TableSays R t → TableSays (Begin g ∷ R) (txns_after (Begin g) lsn t)
+begin_says : (sh : Shape) (R : List Record) (g : BeginRecord) (t : TxnTable) (lsn : ℕ) → AreAllowed sh R → Known R → BeginAllowed R g → g.entry < 96 → HoldsTable R t → HoldsTable (Begin g ∷ R) (txns_after (Begin g) lsn t)
 begin_says sh R g t lsn al k a few h =
     let number = a.number in
     let begun = (good sh R (whole sh R al).fit).held.begun in
     let none : last_undo R g.txn ≡ None = ap undo_of_step (no_newest (txn_count R) g.txn (standing R) (omega (arith, number)) begun) in
     let self : eqb g.txn g.txn ≡ true = eq-eqb g.txn g.txn refl in
-    let mine : told_entry (Begin g ∷ R) (Some g.txn) ≡ Used (record { txn = g.txn; outcome = Active; last_undo = None }) =
+    let mine : entry_used_by (Begin g ∷ R) (Some g.txn) ≡ Used (record { txn = g.txn; outcome = Active; last_undo = None }) =
     ap₂ (λ (b : Outcome) (u : Option UndoAddr). Used (record { txn = g.txn; outcome = b; last_undo = u })) (cond-true _ _ _ (ap (λ v. v || is_active R g.txn) self)) none in
     record {
       control = refl;
       last_txn = number;
       last_row = h.last_row;
       current = h.current;
-      many = length-set t.entries g.entry _ ∙ h.many;
-      entry = written (Begin g ∷ R) t.entries g.entry _ h.many few (sym (ap (told_entry (Begin g ∷ R)) (cond-true _ _ _ (eq-eqb g.entry g.entry refl)) ∙ mine))
-          (λ j m ne. h.entry j m ∙ sym (ap (told_entry (Begin g ∷ R)) (cond-false _ _ _ (ne_eqb g.entry j (λ x. ne (sym x)))) ∙ told_same (Begin g ∷ R) R (user_of R j) (λ u q.
+      count = length-set t.entries g.entry _ ∙ h.count;
+      entries = written (Begin g ∷ R) t.entries g.entry _ h.count few (sym (ap (entry_used_by (Begin g ∷ R)) (cond-true _ _ _ (eq-eqb g.entry g.entry refl)) ∙ mine))
+          (λ j m ne. h.entries j m ∙ sym (ap (entry_used_by (Begin g ∷ R)) (cond-false _ _ _ (ne_eqb g.entry j (λ x. ne (sym x)))) ∙ told_same (Begin g ∷ R) R (user_of R j) (λ u q.
           let b = k.most u (k.entry_begun u j (k.last u j q).0) in
           (ap (λ v. v || is_active R u) (ne_eqb g.txn u (λ x. absurd (omega (arith, number, b, x)))), refl, refl))));
     }
@@ -303,10 +304,10 @@ begin_says sh R g t lsn al k a few h =
 -- the page
 
 abbrev HasT : List Record → Page → Type 0
-HasT R (pages.Txns t) = TableSays R t
+HasT R (pages.Txns t) = HoldsTable R t
 HasT R _ = Unit {0}
 
-change_t : (R : List Record) (r : Record) (lsn : ℕ) (p : Page) → ((t : TxnTable) → TableSays R t → TableSays (r ∷ R) (txns_after r lsn t)) → HasT R p → HasT (r ∷ R) (page_after r lsn p)
+change_t : (R : List Record) (r : Record) (lsn : ℕ) (p : Page) → ((t : TxnTable) → HoldsTable R t → HoldsTable (r ∷ R) (txns_after r lsn t)) → HasT R p → HasT (r ∷ R) (page_after r lsn p)
 change_t R r lsn (pages.Zero x) f h = tt
 change_t R r lsn (pages.Checkpoint x) f h = tt
 change_t R r lsn (pages.Txns x) f h = f x h
@@ -323,10 +324,10 @@ cond_t : (b : Bool) (S : List Record) (p q : Page) → HasT S p → HasT S q →
 cond_t true S p q h k = h
 cond_t false S p q h k = k
 
-hold_t : (R : List Record) (r : Record) (p : Page) → ((t : TxnTable) (lsn : ℕ) → TableSays R t → TableSays (r ∷ R) (record t { lsn = lsn })) → HasT R p → HasT (r ∷ R) p
+hold_t : (R : List Record) (r : Record) (p : Page) → ((t : TxnTable) (lsn : ℕ) → HoldsTable R t → HoldsTable (r ∷ R) (record t { lsn = lsn })) → HasT R p → HasT (r ∷ R) p
 hold_t R r (pages.Zero x) f h = tt
 hold_t R r (pages.Checkpoint x) f h = tt
-hold_t R r (pages.Txns t) f h = let k = f t 0 h in record { control = k.control; last_txn = k.last_txn; last_row = k.last_row; current = k.current; many = k.many; entry = k.entry }
+hold_t R r (pages.Txns t) f h = let k = f t 0 h in record { control = k.control; last_txn = k.last_txn; last_row = k.last_row; current = k.current; count = k.count; entries = k.entries }
 hold_t R r (pages.Catalogue x) f h = tt
 hold_t R r (pages.Space x) f h = tt
 hold_t R r (pages.Undo x) f h = tt
@@ -340,7 +341,7 @@ made_t : (b : Bool) (S : List Record) (q p : Page) → HasT S q → HasT S p →
 made_t true S q p h k = h
 made_t false S q p h k = k
 
-still_step : (sh : Shape) (R : List Record) (r : Record) → ((t : TxnTable) (lsn : ℕ) → TableSays R t → TableSays (r ∷ R) (record t { lsn = lsn })) → ((t : TxnTable) → TableSays R t → TableSays (r ∷ R) (txns_after r (suc (length R)) t))
+still_step : (sh : Shape) (R : List Record) (r : Record) → ((t : TxnTable) (lsn : ℕ) → HoldsTable R t → HoldsTable (r ∷ R) (record t { lsn = lsn })) → ((t : TxnTable) → HoldsTable R t → HoldsTable (r ∷ R) (txns_after r (suc (length R)) t))
     → (HasT R (page_of sh R 1) → HasT R (start r (suc (length R)) (page_of sh R 1))) → HasT R (page_of sh R 1) → HasT (r ∷ R) (page_of sh (r ∷ R) 1)
 still_step sh R r f g s h =
     cond_t (is_among (touched sh r) 1) (r ∷ R) (changed_page r (suc (length R)) (page_of sh R 1)) (page_of sh R 1)
@@ -366,8 +367,8 @@ begin_start sh R g (pages.Zero d) s h e k =
         | inl y ↦ y
         | inr c ↦ let x = called_adds R (Begin g) c h.1.called_for in absurd (let z : Still ≡ Adds x.0 = x.1 in cc)
       ]);
-      many = refl;
-      entry = λ i m. rep 96 i ∙ sym (ap (told_entry R) (no_user R i n));
+      count = refl;
+      entries = λ i m. rep 96 i ∙ sym (ap (entry_used_by R) (no_user R i n));
     }
   where
     none : txn_count R ≡ 0
@@ -469,21 +470,21 @@ find_one p (x ∷ es) e (suc i) l h k = elim (cases_Bool (p x)) [
   | inr f ↦ cond-false _ _ _ f ∙ find_one p es e i (omega (arith, l)) h (λ j m y. k (suc j) (omega (arith, m)) y)
 ]
 
-named_told : (R : List Record) (u : ℕ) (o : Option ℕ) → names u (told_entry R o) ≡ true → told_entry R o ≡ told_entry R (Some u)
+named_told : (R : List Record) (u : ℕ) (o : Option ℕ) → names u (entry_used_by R o) ≡ true → entry_used_by R o ≡ entry_used_by R (Some u)
 named_told R u None h = absurd (true≢false (sym h))
-named_told R u (Some v) h = ap (λ (x : ℕ). told_entry R (Some x)) (eqb-true v u h)
+named_told R u (Some v) h = ap (λ (x : ℕ). entry_used_by R (Some x)) (eqb-true v u h)
 
-finds_its : (R : List Record) (t : TxnTable) (u i : ℕ) → Known R → TableSays R t → entry_of R u ≡ Some i → is_forgotten R u ≡ false → find (names u) t.entries ≡ Some (told_entry R (Some u))
+finds_its : (R : List Record) (t : TxnTable) (u i : ℕ) → Known R → HoldsTable R t → entry_of R u ≡ Some i → is_forgotten R u ≡ false → find (names u) t.entries ≡ Some (entry_used_by R (Some u))
 finds_its R t u i k h e f =
-    let n = h.many in
+    let n = h.count in
     let w = k.entered u (k.entry_begun u i e) in
     let same : w.0 ≡ i = (let z : ◌≡◌ {A = Option ℕ} (Some w.0) (Some i) = sym w.1 ∙ e in cc) in
     let few : i < 96 = subst (λ m. m < 96) same w.2 in
-    find_one (names u) t.entries (told_entry R (Some u)) i (omega (arith, n, few))
-    (ap (names u) (h.entry i few ∙ ap (told_entry R) (k.user u i e f)) ∙ eq-eqb u u refl)
-    (λ j m y. let less : j < 96 = omega (arith, n, m) in h.entry j less ∙ named_told R u (user_of R j) (ap (names u) (sym (h.entry j less)) ∙ y))
+    find_one (names u) t.entries (entry_used_by R (Some u)) i (omega (arith, n, few))
+    (ap (names u) (h.entries i few ∙ ap (entry_used_by R) (k.user u i e f)) ∙ eq-eqb u u refl)
+    (λ j m y. let less : j < 96 = omega (arith, n, m) in h.entries j less ∙ named_told R u (user_of R j) (ap (names u) (sym (h.entries j less)) ∙ y))
 
-last_says : (R : List Record) (t : TxnTable) (u : ℕ) → Known R → TableSays R t → is_active R u ≡ true → last_undo_in t.entries u ≡ last_undo R u
+last_says : (R : List Record) (t : TxnTable) (u : ℕ) → Known R → HoldsTable R t → is_active R u ≡ true → last_undo_in t.entries u ≡ last_undo R u
 last_says R t u k h on = let w = k.entered u (k.begun u on) in ap undo_told (finds_its R t u w.0 k h w.1 (k.kept u on))
 
 pub tables_say : TablesSay

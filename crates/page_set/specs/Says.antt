@@ -1,21 +1,16 @@
 -- What the page of a block says, by what the model says of the block. It holds of every list, lawful or not.
 use Rattle.std.specs.Prelude.{◌≡◌, ℕ, ◌≤◌, false, List, [], ◌∷◌, length, map}
 use Rattle.seg_base.specs.declared.shape.Shape.{Shape}
-use Rattle.undo_block.specs.declared.part.Part.{Part}
 use Rattle.redo_record.specs.declared.record.Record.{Record}
 use Rattle.redo_model.specs.Blocks.{block_of}
-use Rattle.redo_model.specs.Undo.{HeldPart, undo_held}
+use Rattle.redo_model.specs.Undo.{undo_held}
+pub use Rattle.page_model.specs.Types.{as_kept}
 use Rattle.page_set.specs.declared.page.Page.{Page}
 use Rattle.page_set.specs.declared.page.Page.TheVariants.{Zero, Checkpoint, Txns, Catalogue, Space, Undo, First, Second, Third, Header, Rows}
-use Rattle.page_set.specs.Undo.{txn_of}
 use Rattle.page_set.specs.Among.{is_among}
 use Rattle.page_set.specs.Pages.{lsn_of}
 use Rattle.page_set.specs.Folded.{touched, touched_once, page_of}
 use Rattle.redo_model.specs.Lists.{prefix}
-
--- a part that the model says an undo block holds, as the block keeps it
-abbrev pub as_kept : HeldPart → Part
-as_kept h = record { txn = txn_of h.by; previous = h.previous; dba = h.part.dba; slot = h.part.slot; parts = h.count; old = h.part.old }
 
 -- The page is that of block b after the records R: a row block has the slots and list entries of the model's block, an undo
 -- block its parts. No record makes a checkpoint.

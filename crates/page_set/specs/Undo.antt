@@ -1,19 +1,13 @@
 -- What a record does to the page of an undo block, and when it can be done.
 use Rattle.std.specs.Prelude.{◌≡◌, ℕ, ◌+◌, ◌≤◌, cond, eqb, List, [], ◌∷◌, ◌++◌, length, Option}
 use Rattle.seg_base.specs.declared.undo.UndoPlace.{UndoPlace}
-use Rattle.seg_base.specs.declared.slot.Writer.{Writer}
-use Rattle.seg_base.specs.declared.slot.Writer.TheVariants.{By, At}
 use Rattle.undo_block.specs.declared.part.Part.{Part}
 use Rattle.seg_words.specs.Types.{AllByRecursion}
 use Rattle.undo_block.specs.Parts.{used_by, HasPartForm}
 use Rattle.undo_block.specs.UndoPage.{UndoPage}
 use Rattle.redo_record.specs.declared.part.RowPart.{RowPart}
 use Rattle.redo_model.specs.Effects.{Step, Effect, Adds}
-
--- the transaction of a part: a move has none
-abbrev pub txn_of : Writer → ℕ
-txn_of (By t) = t
-txn_of (At c) = 0
+pub use Rattle.page_model.specs.Types.{txn_of}
 
 -- the old images of some parts, as the undo block keeps them: of a record of n parts
 abbrev pub kept_parts : ℕ → Option UndoPlace → ℕ → List RowPart → List Part

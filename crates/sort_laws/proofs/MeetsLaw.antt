@@ -18,7 +18,7 @@ use Rattle.redo_laws.proofs.allowed.Shapes.{empty_of}
 use Rattle.redo_laws.proofs.numbers.TxnTable.{txn_table}
 use Rattle.redo_laws.proofs.spread.Whole.{record_fits}
 use Rattle.sort_laws.specs.Sorts.{First, Second, Third, sort_of, changes_table, MapsFit, RecordsMeetSorts, ReuseMayComeFirst, CalledReusesFindTable}
-use Rattle.sort_laws.specs.Touched.{first_of}
+use Rattle.page_model.specs.Types.{first_of}
 use Rattle.space_laws.proofs.BestsLaw.{index_is}
 use Rattle.page_laws.proofs.FitsLaw.{named_blocks_are_formatted}
 use Rattle.sort_laws.proofs.SortsLaw.{at_exists, at_last, group_below, group_twice, heads_in, sorts_are_made}

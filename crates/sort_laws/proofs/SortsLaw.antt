@@ -9,7 +9,7 @@ use Rattle.redo_laws.proofs.lists.Bools.{off}
 use Rattle.redo_laws.proofs.numbers.Bounds.{Limits, limits, reuse_bound}
 use Rattle.redo_laws.proofs.space.LowMark.{apart}
 use Rattle.redo_laws.proofs.space.Places.{in_take, contains_in, in_data, IsNumber, segments, a_table, format_first, free_has}
-use Rattle.sort_laws.specs.Touched.{touched}
+use Rattle.page_model.specs.Types.{touched_sorts}
 use Rattle.sort_laws.specs.Sorts.{Sort, Blank, Rows, Undo, Txns, First, Second, Third, as_txns, sort_after, sort_of, SortsAreMade}
 use Rattle.space_laws.proofs.ExtentsLaw.{found_has, head_few, group_heads, each_block_has_one_role}
 
@@ -181,7 +181,7 @@ l2_map sh R x a = subst (λ d. MapAt sh R x 1 d (group_start x.index)) (sym a.l2
 l3_map : (sh : Shape) (R : List Record) (x : ExtendRecord) → ExtendAllowed sh R x → MapAt sh R x 2 x.l3 0
 l3_map sh R x a = subst (λ d. MapAt sh R x 2 d 0) (sym a.l3) (map_at sh R x 2 0 a (omega arith))
 
-sort_extend : (sh : Shape) (R : List Record) (x : ExtendRecord) (d : ℕ) (s : Sort) → Limits sh → ExtendAllowed sh R x → in_extent sh x.extent d ≡ false → is_in d (touched sh (Extend x)) ≡ true → sort_after (Extend x) d s ≡ s
+sort_extend : (sh : Shape) (R : List Record) (x : ExtendRecord) (d : ℕ) (s : Sort) → Limits sh → ExtendAllowed sh R x → in_extent sh x.extent d ≡ false → is_in d (touched_sorts sh (Extend x)) ≡ true → sort_after (Extend x) d s ≡ s
 sort_extend sh R x d s l a out m =
     (elim (eqb d x.l2) as (λ v. eqb d x.l2 ≡ v → cond v (cond (eqb (x.index % 300) 0) Second s) (cond (eqb d x.l3) (cond (eqb x.index 0) Third s) First) ≡ s) [
       | true ↦ λ y. both_same (eqb (x.index % 300) 0) s Second (λ z. absurd (not_l2 (eqb-true d x.l2 y) (eqb-true (x.index % 300) 0 z)))
@@ -219,11 +219,11 @@ sort_extend sh R x d s l a out m =
     ]
 
 sort_clear : (sh : Shape) (R : List Record) (r : Record) (d : ℕ) → Limits sh → IsKindAllowed sh R r → Clear sh r d (sort_of sh R d) → sort_of sh (r ∷ R) d ≡ sort_of sh R d
-sort_clear sh R (Extend x) d l a c = both_same (is_in d (touched sh (Extend x))) (sort_of sh R d) _ (λ m. sort_extend sh R x d (sort_of sh R d) l a c m)
-sort_clear sh R (FormatBlock f) d l a c = both_same (is_in d (touched sh (FormatBlock f))) (sort_of sh R d) _ (λ m. cond-false _ _ _ c)
-sort_clear sh R (Reuse q) d l a c = both_same (is_in d (touched sh (Reuse q))) (sort_of sh R d) _ (λ m. cond-false _ _ _ c)
-sort_clear sh R (Begin g) d l a c = both_same (is_in d (touched sh (Begin g))) (sort_of sh R d) _ (λ m. c)
-sort_clear sh R r d l a c = both_same (is_in d (touched sh r)) (sort_of sh R d) _ (λ m. refl)
+sort_clear sh R (Extend x) d l a c = both_same (is_in d (touched_sorts sh (Extend x))) (sort_of sh R d) _ (λ m. sort_extend sh R x d (sort_of sh R d) l a c m)
+sort_clear sh R (FormatBlock f) d l a c = both_same (is_in d (touched_sorts sh (FormatBlock f))) (sort_of sh R d) _ (λ m. cond-false _ _ _ c)
+sort_clear sh R (Reuse q) d l a c = both_same (is_in d (touched_sorts sh (Reuse q))) (sort_of sh R d) _ (λ m. cond-false _ _ _ c)
+sort_clear sh R (Begin g) d l a c = both_same (is_in d (touched_sorts sh (Begin g))) (sort_of sh R d) _ (λ m. c)
+sort_clear sh R r d l a c = both_same (is_in d (touched_sorts sh r)) (sort_of sh R d) _ (λ m. refl)
 
 -- formatted blocks
 
@@ -292,7 +292,7 @@ used_step sh R (Reuse q) l h a k u x =
     (elim (eqb q.block u) as (λ v. eqb q.block u ≡ v → 1 ≤ cond v (suc (undo_sequence R u)) (undo_sequence R u) → IsUndo sh (Reuse q ∷ R) u) [
       | true ↦ λ y z.
           let b = reuse_bound sh R q.block l.undo_from h a.block.next in
-          let m : is_in u (touched sh (Reuse q)) ≡ true = or_right (eqb 1 u) _ (or_left (eqb q.block u) _ y) in
+          let m : is_in u (touched_sorts sh (Reuse q)) ≡ true = or_right (eqb 1 u) _ (or_left (eqb q.block u) _ y) in
           record { sort = cond-true _ _ _ m ∙ cond-true _ _ _ y; from = subst (λ d. 37 ≤ d) (eqb-true q.block u y) b.0; to = subst (λ d. d < 37 + sh.undo) (eqb-true q.block u y) b.1 }
       | false ↦ λ y z. stays_undo sh R (Reuse q) u l a (λ w. y) (k u z)
     ]) refl x
@@ -442,15 +442,15 @@ new_heads sh R x s h a =
     let b = first_block sh x.extent in
     record {
       first =
-          let touched_it : is_in (b + 0) (touched sh (Extend x)) ≡ true = or_right (eqb x.l2 (b + 0)) _ (or_right (eqb x.l3 (b + 0)) _ (or_left (eqb (min b 4294967295) (b + 0)) false (eq-eqb (min b 4294967295) (b + 0) (let k = first_touched sh R x lim a in omega (arith, k))))) in
+          let touched_it : is_in (b + 0) (touched_sorts sh (Extend x)) ≡ true = or_right (eqb x.l2 (b + 0)) _ (or_right (eqb x.l3 (b + 0)) _ (or_left (eqb (min b 4294967295) (b + 0)) false (eq-eqb (min b 4294967295) (b + 0) (let k = first_touched sh R x lim a in omega (arith, k))))) in
           cond-true _ _ _ touched_it ∙ cond-false _ _ _ (not_second sh R x 0 s h a (omega arith) (λ e. absurd (omega (arith, e)))) ∙ cond-false _ _ _ (not_third sh R x 0 s h a (omega arith) (λ e. absurd (omega (arith, e))));
       second = λ g.
           let l2 = new_l2 sh R x a g in
-          let touched_it : is_in (b + 1) (touched sh (Extend x)) ≡ true = or_left (eqb x.l2 (b + 1)) _ (eq-eqb x.l2 (b + 1) l2) in
+          let touched_it : is_in (b + 1) (touched_sorts sh (Extend x)) ≡ true = or_left (eqb x.l2 (b + 1)) _ (eq-eqb x.l2 (b + 1) l2) in
           cond-true _ _ _ touched_it ∙ cond-true _ _ _ (eq-eqb (b + 1) x.l2 (sym l2)) ∙ cond-true _ _ _ (eq-eqb (x.index % 300) 0 (group_whole x.index g));
       third = λ z.
           let l3 = new_l3 sh R x a z in
-          let touched_it : is_in (b + 2) (touched sh (Extend x)) ≡ true = or_right (eqb x.l2 (b + 2)) _ (or_left (eqb x.l3 (b + 2)) _ (eq-eqb x.l3 (b + 2) l3)) in
+          let touched_it : is_in (b + 2) (touched_sorts sh (Extend x)) ≡ true = or_right (eqb x.l2 (b + 2)) _ (or_left (eqb x.l3 (b + 2)) _ (eq-eqb x.l3 (b + 2) l3)) in
           cond-true _ _ _ touched_it ∙ cond-false _ _ _ (not_second sh R x 2 s h a (omega arith) (λ e. absurd (omega (arith, e)))) ∙ cond-true _ _ _ (eq-eqb (b + 2) x.l3 (sym l3)) ∙ cond-true _ _ _ (eq-eqb x.index 0 z);
     }
 

@@ -11,8 +11,8 @@ use Rattle.redo_laws.proofs.allowed.Basics.{EffectBasics, basics}
 use Rattle.redo_laws.proofs.numbers.Bounds.{Limits, limits, data_bound, current_bound, reuse_bound}
 use Rattle.redo_laws.proofs.lists.Every.{Every, every-map}
 use Rattle.redo_laws.proofs.space.Places.{in_contains, in_take, format_first, has_taken}
-use Rattle.page_laws.specs.Fits.{blocks_of, back_blocks}
-use Rattle.sort_laws.specs.Touched.{touched_by_row, first_of, touched, those, headed, TouchedAreThere}
+use Rattle.page_model.specs.Types.{blocks_of, back_blocks, touched_by_row, first_of, those, touched_heads, touched_sorts, touched}
+use Rattle.sort_laws.specs.Touched.{TouchedAreThere}
 use Rattle.page_laws.proofs.FitsLaw.{SomeHome, step_home, back_home}
 use Rattle.space_laws.proofs.ExtentsLaw.{found_has}
 
@@ -69,15 +69,22 @@ row_touched sh R r w d l h e = let x = step_there sh R r (row_step w d) l h e in
 first_there : (sh : Shape) (b : ℕ) → b < sh.blocks → first_of sh b < sh.blocks
 first_there sh b l = omega (arith, l)
 
-touched_there : (sh : Shape) (R : List Record) (r : Record) → Limits sh → AreAllowed sh (r ∷ R) → IsKindAllowed sh R r → AreThere sh (touched sh r)
-touched_there sh R (Extend e) l h a = (
+l2_there : (sh : Shape) (es : List Extent) (i : ℕ) (os : List (Option ℕ)) → Limits sh → ((x : ℕ) → has_extent es x ≡ true → is_extent sh x ≡ true) → AreThere sh (those os) → AreThere sh (those (l2_at sh (extent_at es i) ∷ os))
+l2_there sh es i os l w k = go (extent_at es i) refl
+  where
+    go : (o : Option Extent) → extent_at es i ≡ o → AreThere sh (those (l2_at sh o ∷ os))
+    go None e = k
+    go (Some x) e = (subst (λ z. block_in sh z 1 < sh.blocks) e (place_there sh es i 1 l w (omega arith)), k)
+
+sorts_there : (sh : Shape) (R : List Record) (r : Record) → Limits sh → AreAllowed sh (r ∷ R) → IsKindAllowed sh R r → AreThere sh (touched_sorts sh r)
+sorts_there sh R (Extend e) l h a = (
   subst (λ n. n < sh.blocks) (sym a.l2) (at_there sh (Extend e ∷ R) e.obj (group_start e.index) 1 l h (omega arith)),
   (
     subst (λ n. n < sh.blocks) (sym a.l3) (at_there sh (Extend e ∷ R) e.obj 0 2 l h (omega arith)),
     ((let k = extent_there sh e.extent l (free_whole sh R e.extent a.extent.free) in omega (arith, k)), tt),
   ),
 )
-touched_there sh R (FormatBlock f) l h a =
+sorts_there sh R (FormatBlock f) l h a =
     let d = (data_bound sh R f.obj f.dba h.0 (in_take f.dba (high_mark R f.obj) (data_blocks sh R f.obj) (format_first sh R f a).0)).1 in (
       d,
       (
@@ -88,7 +95,7 @@ touched_there sh R (FormatBlock f) l h a =
         ),
       ),
     )
-touched_there sh R (Class k) l h a =
+sorts_there sh R (Class k) l h a =
     let d = row_there sh R k.obj k.dba h.0 a.here in (
       subst (λ n. n < sh.blocks) (sym a.bitmaps.l2_is) (at_there sh R k.obj (group_start k.index) 1 l h.0 (omega arith)),
       (
@@ -96,48 +103,41 @@ touched_there sh R (Class k) l h a =
         (first_there sh k.dba d, tt),
       ),
     )
-touched_there sh R (Begin g) l h a = ((let k = l.all in omega (arith, k)), tt)
-touched_there sh R (Reuse q) l h a = ((let k = l.all in omega (arith, k)), ((let b = (reuse_bound sh R q.block l.undo_from h.0 a.block.next).1 in let k = l.all in omega (arith, b, k)), tt))
-touched_there sh R (Insert w) l h a = row_touched sh R (Insert w) w false l h refl
-touched_there sh R (Update w) l h a = row_touched sh R (Update w) w false l h refl
-touched_there sh R (Migrate w) l h a = row_touched sh R (Migrate w) w false l h refl
-touched_there sh R (Return w) l h a = row_touched sh R (Return w) w false l h refl
-touched_there sh R (Delete w) l h a = row_touched sh R (Delete w) w true l h refl
-touched_there sh R (Commit c) l h a = ((let k = l.all in omega (arith, k)), tt)
-touched_there sh R (Back k) l h a = ((let x = l.all in omega (arith, x)), backs_there sh k.parts (every-map (λ (q : BackPart). SomeHome sh R q.dba) _ k.parts (λ q x. row_there sh R x.0 q.dba h.0 x.1) (back_home sh R k h)))
-touched_there sh R (Ended e) l h a = ((let k = l.all in omega (arith, k)), tt)
-touched_there sh R (Move m) l h a = step_there sh R (Move m) (move_step m) l h refl
-touched_there sh R (Clean c) l h a = (row_there sh R a.obj c.dba h.0 a.here, tt)
-touched_there sh R (Table t) l h a = tt
-touched_there sh R (Movement m) l h a = tt
-touched_there sh R (Advance x) l h a = tt
-touched_there sh R (Lower x) l h a = tt
-
-l2_there : (sh : Shape) (es : List Extent) (i : ℕ) (os : List (Option ℕ)) → Limits sh → ((x : ℕ) → has_extent es x ≡ true → is_extent sh x ≡ true) → AreThere sh (those os) → AreThere sh (those (l2_at sh (extent_at es i) ∷ os))
-l2_there sh es i os l w k = go (extent_at es i) refl
-  where
-    go : (o : Option Extent) → extent_at es i ≡ o → AreThere sh (those (l2_at sh o ∷ os))
-    go None e = k
-    go (Some x) e = (subst (λ z. block_in sh z 1 < sh.blocks) e (place_there sh es i 1 l w (omega arith)), k)
-
-headed_there : (sh : Shape) (R : List Record) (r : Record) → Limits sh → AreAllowed sh (r ∷ R) → IsKindAllowed sh R r → AreThere sh (headed r)
-headed_there sh R (Table t) l h a = ((let k = extent_there sh a.extent l (free_whole sh R a.extent a.room.free) in let e = a.header in omega (arith, k, e)), tt)
-headed_there sh R (Movement m) l h a = (subst (λ n. n < sh.blocks) (sym a.header) (at_there sh R m.obj 0 3 l h.0 (omega arith)), tt)
-headed_there sh R (Extend e) l h a = (subst (λ n. n < sh.blocks) (sym a.header) (at_there sh (Extend e ∷ R) e.obj 0 3 l h (omega arith)), tt)
-headed_there sh R (Advance x) l h a = (subst (λ n. n < sh.blocks) (sym a.header) (at_there sh R x.obj 0 3 l h.0 (omega arith)), tt)
-headed_there sh R (Lower x) l h a =
+sorts_there sh R (Begin g) l h a = ((let k = l.all in omega (arith, k)), tt)
+sorts_there sh R (Reuse q) l h a = ((let k = l.all in omega (arith, k)), ((let b = (reuse_bound sh R q.block l.undo_from h.0 a.block.next).1 in let k = l.all in omega (arith, b, k)), tt))
+sorts_there sh R (Insert w) l h a = row_touched sh R (Insert w) w false l h refl
+sorts_there sh R (Update w) l h a = row_touched sh R (Update w) w false l h refl
+sorts_there sh R (Migrate w) l h a = row_touched sh R (Migrate w) w false l h refl
+sorts_there sh R (Return w) l h a = row_touched sh R (Return w) w false l h refl
+sorts_there sh R (Delete w) l h a = row_touched sh R (Delete w) w true l h refl
+sorts_there sh R (Commit c) l h a = ((let k = l.all in omega (arith, k)), tt)
+sorts_there sh R (Back k) l h a = ((let x = l.all in omega (arith, x)), backs_there sh k.parts (every-map (λ (q : BackPart). SomeHome sh R q.dba) _ k.parts (λ q x. row_there sh R x.0 q.dba h.0 x.1) (back_home sh R k h)))
+sorts_there sh R (Ended e) l h a = ((let k = l.all in omega (arith, k)), tt)
+sorts_there sh R (Move m) l h a = step_there sh R (Move m) (move_step m) l h refl
+sorts_there sh R (Clean c) l h a = (row_there sh R a.obj c.dba h.0 a.here, tt)
+sorts_there sh R (Table t) l h a = tt
+sorts_there sh R (Movement m) l h a = tt
+sorts_there sh R (Advance x) l h a = tt
+sorts_there sh R (Lower x) l h a =
     let es = take x.kept (extents_of R x.obj) in
     let w : (y : ℕ) → has_extent es y ≡ true → is_extent sh y ≡ true = λ y k. (placed sh R x.obj h.0).whole y (has_taken x.kept (extents_of R x.obj) y k) in (
-      subst (λ n. n < sh.blocks) (sym a.header) (at_there sh R x.obj 0 3 l h.0 (omega arith)),
-      (
-        subst (λ n. n < sh.blocks) (sym a.l3) (at_there sh R x.obj 0 2 l h.0 (omega arith)),
-        subst (λ (os : List (Option ℕ)). AreThere sh (those os)) (sym a.l2)
-            (l2_there sh es 0 (l2_at sh (extent_at es 300) ∷ l2_at sh (extent_at es 600) ∷ []) l w (l2_there sh es 300 (l2_at sh (extent_at es 600) ∷ []) l w (l2_there sh es 600 [] l w tt))),
-      ),
+      subst (λ n. n < sh.blocks) (sym a.l3) (at_there sh R x.obj 0 2 l h.0 (omega arith)),
+      subst (λ (os : List (Option ℕ)). AreThere sh (those os)) (sym a.l2)
+          (l2_there sh es 0 (l2_at sh (extent_at es 300) ∷ l2_at sh (extent_at es 600) ∷ []) l w (l2_there sh es 300 (l2_at sh (extent_at es 600) ∷ []) l w (l2_there sh es 600 [] l w tt))),
     )
-headed_there sh R _ l h a = tt
+
+space_there : (sh : Shape) → Limits sh → 3 < sh.blocks
+space_there sh l = (let k = l.all in omega (arith, k))
+
+heads_there : (sh : Shape) (R : List Record) (r : Record) → Limits sh → AreAllowed sh (r ∷ R) → IsKindAllowed sh R r → AreThere sh (touched_heads r)
+heads_there sh R (Table t) l h a = ((let k = l.all in omega (arith, k)), ((let k = extent_there sh a.extent l (free_whole sh R a.extent a.room.free) in let e = a.header in omega (arith, k, e)), tt))
+heads_there sh R (Movement m) l h a = (subst (λ n. n < sh.blocks) (sym a.header) (at_there sh R m.obj 0 3 l h.0 (omega arith)), tt)
+heads_there sh R (Extend e) l h a = (space_there sh l, (subst (λ n. n < sh.blocks) (sym a.header) (at_there sh (Extend e ∷ R) e.obj 0 3 l h (omega arith)), tt))
+heads_there sh R (Advance x) l h a = (subst (λ n. n < sh.blocks) (sym a.header) (at_there sh R x.obj 0 3 l h.0 (omega arith)), tt)
+heads_there sh R (Lower x) l h a = (space_there sh l, (subst (λ n. n < sh.blocks) (sym a.header) (at_there sh R x.obj 0 3 l h.0 (omega arith)), tt))
+heads_there sh R _ l h a = tt
 
 pub touched_are_there : TouchedAreThere
 touched_are_there sh R r d s h m =
     let l = limits sh s in
-    among_there sh (touched sh r ++ headed r) d (both_there sh (touched sh r) (headed r) (touched_there sh R r l h h.1.kind) (headed_there sh R r l h h.1.kind)) m
+    among_there sh (touched sh r) d (both_there sh (touched_heads r) (touched_sorts sh r) (heads_there sh R r l h h.1.kind) (sorts_there sh R r l h h.1.kind)) m

@@ -8,7 +8,7 @@ use Rattle.redo_model.specs.Effects.{Adds}
 use Rattle.redo_model.specs.Worked.{small}
 use Rattle.redo_laws.specs.Among.{is_in}
 use Rattle.page_laws.specs.Fits.{rows_named}
-use Rattle.sort_laws.specs.Touched.{touched, first_of}
+use Rattle.page_model.specs.Types.{first_of, touched_sorts}
 
 pub data Sort : Type 0 where
   Blank : Sort
@@ -35,7 +35,7 @@ sort_after _ d s = s
 
 abbrev pub sort_of : Shape → List Record → ℕ → Sort
 sort_of sh [] d = Blank
-sort_of sh (r ∷ R) d = cond (is_in d (touched sh r)) (sort_after r d (sort_of sh R d)) (sort_of sh R d)
+sort_of sh (r ∷ R) d = cond (is_in d (touched_sorts sh r)) (sort_after r d (sort_of sh R d)) (sort_of sh R d)
 
 -- the sorts that a list has made
 pub record SortsOf (sh : Shape) (R : List Record) : Type 0 where
@@ -89,7 +89,7 @@ first_reuse = Reuse (record { block = 37; sequence = 1 })
 
 pub record FirstReuse : Type 0 where
   pub allowed : AreAllowed small (first_reuse ∷ [])
-  pub touches : is_in 1 (touched small first_reuse) ≡ true
+  pub touches : is_in 1 (touched_sorts small first_reuse) ≡ true
   pub blank : sort_of small [] 1 ≡ Blank
   pub left_blank : sort_of small (first_reuse ∷ []) 1 ≡ Blank
 

@@ -5,7 +5,7 @@
 ghost use Rattle.sort_laws.specs.Sorts.{CalledReusesFindTable, RecordsMeetSorts, ReuseMayComeFirst, SortsAreMade};
 ghost use Rattle.sort_laws.specs.Touched.{TouchedAreThere};
 
-/// The blocks whose pages an allowed record changes, and the headers and bitmaps that it names, lie in the store.
+/// The blocks whose pages an allowed record changes lie in the store.
 pub fn touched_are_there()
     ensures { TouchedAreThere }
 {}

@@ -1,32 +1,22 @@
 -- Which page a block has after a lawful list.
-use Rattle.std.proofs.Common.{◌≡◌, ◌⊎◌, ℕ, ◌<◌, ◌≤◌, true, false, cond, List, [], ◌∷◌, length, map, replicate, Option, Some, None, refl, sym, ◌∙◌, ap, ap₂, subst, inl, inr, arith}
+use Rattle.std.proofs.Common.{◌≡◌, ◌⊎◌, ℕ, ◌<◌, ◌≤◌, true, false, List, [], ◌∷◌, Option, Some, None, refl, sym, ◌∙◌, ap, subst, inl, inr, arith}
 use Rattle.std.proofs.lemmas.Bool.{true≢false}
 use Rattle.seg_words.proofs.Lemmas.{get_or-replicate}
 use Rattle.seg_base.specs.declared.shape.Shape.{Shape}
-use Rattle.seg_base.specs.declared.slot.Writer.{Writer}
-use Rattle.seg_base.specs.declared.slot.Writer.TheVariants.{By, At}
-use Rattle.undo_block.specs.declared.part.Part.{Part}
 use Rattle.undo_block.specs.UndoPage.{UndoPage}
-use Rattle.txn_block.specs.declared.entry.Outcome.{Outcome}
-use Rattle.txn_block.specs.declared.entry.Outcome.TheVariants.{Active}
-use Rattle.txn_block.specs.declared.entry.TableEntry.TheVariants.{Unused, Used}
+use Rattle.txn_block.specs.declared.entry.TableEntry.TheVariants.{Unused}
 use Rattle.txn_block.specs.Tables.{TxnTable}
 use Rattle.redo_record.specs.declared.record.Record.{Record}
 use Rattle.redo_record.specs.declared.record.Record.TheVariants.{Reuse}
-use Rattle.redo_model.specs.Steps.{last_undo}
-use Rattle.redo_model.specs.Transactions.{is_active, commit_number, user_of}
-use Rattle.redo_model.specs.Undo.{HeldPart, current_undo}
+use Rattle.redo_model.specs.Undo.{current_undo}
 use Rattle.redo_model.specs.Lawful.{is_whole}
-use Rattle.version_laws.specs.Pages as versions
-use Rattle.version_laws.specs.Pages.{HoldsTable}
+use Rattle.page_model.specs.Types.{entry_used_by}
 use Rattle.page_set.specs.declared.page.Page.TheVariants as pages
-use Rattle.page_set.specs.Undo.{txn_of}
 use Rattle.page_set.specs.Folded.{page_of}
-use Rattle.page_set.specs.Says.{as_kept, Says}
+use Rattle.page_set.specs.Says.{Says}
 use Rattle.page_set.proofs.SaysLaw.{says}
 use Rattle.sort_laws.specs.Sorts.{Blank, Rows, Undo, Txns}
 use Rattle.sort_laws.proofs.SortsLaw.{sorts_are_made}
-use Rattle.page_fit.specs.Tables.{over_as, told_entry, TableSays}
 use Rattle.page_fit.proofs.FitLaw.{is_rows, is_undo, is_txns, is_zero, the_sort, one_plain, undo_plain, row_plain, stands_whole}
 use Rattle.page_fit.proofs.Headed.{headed}
 use Rattle.page_fit.proofs.SequenceLaw.{sequences_are_counts}
@@ -35,28 +25,10 @@ use Rattle.store_laws.specs.Kinds.{TablesStand, TablesAreNew, UndoStands, UndoIs
 
 -- ---- the table
 
-outcome_same : (o : Option ℕ) → over_as o ≡ versions.outcome_when_over o
-outcome_same None = refl
-outcome_same (Some c) = refl
-
-entry_same : (R : List Record) (o : Option ℕ) → told_entry R o ≡ versions.entry_used_by R o
-entry_same R None = refl
-entry_same R (Some t) = ap (λ (x : Outcome). Used (record { txn = t; outcome = cond (is_active R t) Active x; last_undo = last_undo R t })) (outcome_same (commit_number R t))
-
-held_table : (R : List Record) (t : TxnTable) → TableSays R t → HoldsTable R t
-held_table R t h = record {
-  control = h.control;
-  last_txn = h.last_txn;
-  last_row = h.last_row;
-  current = h.current;
-  count = h.many;
-  entries = λ i lt. h.entry i lt ∙ entry_same R (user_of R i);
-}
-
 pub tables_stand : TablesStand
 tables_stand sh R s h b =
     let k = is_txns (page_of sh R 1) (the_sort sh R 1 Txns h (one_plain sh R h) ((sorts_are_made sh R s h).begun b)) in
-    record { table = k.0; page = k.1; holds = held_table R k.0 (tables_say sh R k.0 s h k.1).says }
+    record { table = k.0; page = k.1; holds = (tables_say sh R k.0 s h k.1).says }
 
 none_current : (R : List Record) → is_whole R ≡ true → (current_undo R ≡ None) ⊎ CalledFor R → current_undo R ≡ None
 none_current R w (inl e) = e
@@ -75,26 +47,18 @@ tables_are_new sh R s h n =
         last_row = sym (no_row sh R h.allowed n);
         current = sym (none_current R h.whole (no_current sh R h.allowed n));
         count = refl;
-        entries = λ i lt. get_or-replicate 96 i Unused Unused lt ∙ sym (ap (versions.entry_used_by R) (no_user R i n));
+        entries = λ i lt. get_or-replicate 96 i Unused Unused lt ∙ sym (ap (entry_used_by R) (no_user R i n));
       };
     }
 
 -- ---- undo
-
-txn_same : (w : Writer) → txn_of w ≡ versions.txn_of w
-txn_same (By t) = refl
-txn_same (At c) = refl
-
-kept_same : (hs : List HeldPart) → map as_kept hs ≡ map versions.as_kept hs
-kept_same [] = refl
-kept_same (h ∷ hs) = ap₂ (λ (t : ℕ) (ps : List Part). record { txn = t; previous = h.previous; dba = h.part.dba; slot = h.part.slot; parts = h.count; old = h.part.old } ∷ ps) (txn_same h.by) (kept_same hs)
 
 pub undo_is_held : UndoIsHeld
 undo_is_held sh R u p h e =
     let k : Says R u (pages.Undo p) = subst (Says R u) e (says sh R u) in
     record {
       sequence = sequences_are_counts sh R u p.sequence p.parts p.lsn h (e ∙ ap (λ (d : ℕ). pages.Undo (record { dba = d; lsn = p.lsn; sequence = p.sequence; parts = p.parts })) k.0);
-      parts = k.1 ∙ kept_same _;
+      parts = k.1;
     }
 
 pub undo_stands : UndoStands

@@ -1,0 +1,5 @@
+pub mod Touched
+pub mod RowFits
+pub mod Undo
+pub mod Transactions
+pub mod Types

@@ -3,11 +3,11 @@ ghost use Rattle.std.specs.Prelude.{◌≡◌, ◌^◌, ◌<◌, ◌≤◌, ◌+
 ghost use Rattle.seg_words.specs.Types.{w16, w64, to_be_bytes, is_name};
 ghost use Rattle.assm.specs.Plain.{spelled, spelled_all, IsFit, AreFit, table_in, begin_in, insert_in, commit_in, ended_in, record_in, HasShortRow, HaveShortRows, Reads, found};
 
-use crate::bytes::put;
 use crate::input::Input;
 use crate::record::Record;
 use seg_base::{LONGEST_ROW, Name, NoMemory, Obj, RowNo, Scn, Text, TxnId, put_u16, put_u64};
 use std::alloc::Global;
+use text_port::put;
 
 fn put_byte(out: &mut Vec<u8>, byte: u8) -> Result<(), NoMemory>
     ensures { OnOk result (out.new.items ≡ out.old.items ++ byte ∷ []) }

@@ -2,10 +2,10 @@
 ghost use Rattle.std.specs.Prelude.{◌≡◌, ◌++◌, IfOk, OnOk, codes, decimal};
 ghost use Rattle.assm.specs.Lines.{row_line, row_lines, refusal_text, scan_text, outcome_text, ordinal_text, entry_text};
 
-use crate::bytes::{put, put_number};
 use crate::entry::{Entry, Outcome, Refusal, RowOut};
 use seg_base::{Name, NoMemory};
 use std::alloc::Global;
+use text_port::{put, put_number};
 
 #[tactic(auto, unfolding(crate::specs::Lines::row_line))]
 fn put_row(out: &mut Vec<u8>, row: &RowOut) -> Result<(), NoMemory>

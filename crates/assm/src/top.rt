@@ -10,7 +10,6 @@ ghost use Rattle.assm.specs.Heads.{HeadOfRun, HeadOfFormat};
 ghost use Rattle.assm.specs.Top.{RunTells, ScriptTells, FormatTells, HadScript, IsRefused, shape_text};
 ghost use Rattle.assm.specs.declared.words.Command.TheVariants as asked;
 
-use crate::bytes::{put, put_number};
 use crate::format::format;
 use crate::opening::open;
 use crate::run::run;
@@ -22,7 +21,7 @@ use seg_base::{Gate, NoMemory, OWN_BLOCKS, Shape};
 use std::alloc::Global;
 use std::sync::Wait;
 use std::thread::Threads;
-use text_port::{Sink, Source, read_all, write_all};
+use text_port::{Sink, Source, put, put_number, read_all, write_all};
 
 /// The bytes that a script may have.
 const MOST: usize = 1 << 24;

@@ -1,11 +1,8 @@
 -- Which page a block has after a lawful list.
-use Rattle.std.proofs.Common.{◌≡◌, ◌⊎◌, ℕ, ◌<◌, ◌≤◌, true, false, List, [], ◌∷◌, Option, Some, None, refl, sym, ◌∙◌, ap, subst, inl, inr, arith}
+use Rattle.std.proofs.Common.{◌≡◌, ◌⊎◌, ℕ, true, List, [], ◌∷◌, None, refl, sym, ◌∙◌, ap, subst, inl, inr}
 use Rattle.std.proofs.lemmas.Bool.{true≢false}
 use Rattle.seg_words.proofs.Lemmas.{get_or-replicate}
-use Rattle.seg_base.specs.declared.shape.Shape.{Shape}
-use Rattle.undo_block.specs.UndoPage.{UndoPage}
 use Rattle.txn_block.specs.declared.entry.TableEntry.TheVariants.{Unused}
-use Rattle.txn_block.specs.Tables.{TxnTable}
 use Rattle.redo_record.specs.declared.record.Record.{Record}
 use Rattle.redo_record.specs.declared.record.Record.TheVariants.{Reuse}
 use Rattle.redo_model.specs.Undo.{current_undo}

@@ -7,7 +7,7 @@ use Rattle.disk_model.specs.Types.{Files, content, put, written, Torn, TornFile,
 use Rattle.disk_model.specs.declared.disk.File.TheVariants.{Data}
 use Rattle.disk_model.proofs.Lemmas.{on_ok, Running, run_started, run_write, run_written, run_looked, leaves_so, settles_so}
 use Rattle.page_bytes.specs.Types.{page_of as page_with}
-use Rattle.page_store.specs.Types.{part, block, copy, head_blocks, is_batch, HasPages, IsPartRead, after, blocks_of, IsStore, IsShut, dba_bytes, IsCopied, IsOpened, InPlace, IsPlaced, RawPage, AREA_AT, AREA_END, COPIES_AT, FIRST_COPY}
+use Rattle.page_store.specs.Types.{part, block, copy, head_blocks, is_batch, HasPages, AsLong, IsPartRead, after, blocks_of, IsStore, IsShut, dba_bytes, IsCopied, IsOpened, InPlace, IsPlaced, RawPage, AREA_AT, AREA_END, COPIES_AT, FIRST_COPY}
 use Rattle.page_store.proofs.Parts.{part_torn, part_written}
 use Rattle.page_store.proofs.Heads.{sound_long}
 use Rattle.page_store.proofs.Batch.{tested, by_recursion, limits}
@@ -36,8 +36,8 @@ module _ {D : Type 0} (meaning : Meaning D) (start : D) (batch : List RawPage) w
       stays : (b c : List ℕ) → E b → Torn at (length bytes) b c → E c
       stays b c is torn = page_stays shape pages batch old was i p lt reads b c is (subst (λ (l : List ℕ). Torn (BLOCK_SIZE * p.dba) (length l) b c) same (subst (λ (n : ℕ). Torn n (length bytes) b c) place torn))
 
-      pub place_write : Elapses meaning mid new → ((image : Files) → Now meaning new image → (image_was : Files) × Now meaning mid image_was × TornFile Data at (length bytes) image_was image) → Leaves meaning start new (OnlyFile meaning start Data (HasPages shape (after batch pages)))
-      place_write time crash = leaves_so meaning Data start new (HasPages shape (after batch pages)) E (run_write meaning start Data E mid new (InPlace i batch) at bytes run stays time crash).leaves (λ c is. placing_pages shape pages batch old c was is)
+      pub place_write : Elapses meaning mid new → ((image : Files) → Now meaning new image → (image_was : Files) × Now meaning mid image_was × TornFile Data at (length bytes) image_was image) → Leaves meaning start new (OnlyFile meaning start Data (AsLong old (HasPages shape (after batch pages))))
+      place_write time crash = leaves_so meaning Data start new (AsLong old (HasPages shape (after batch pages))) E (run_write meaning start Data E mid new (InPlace i batch) at bytes run stays time crash).leaves (λ c is. record { long = is.long; is = placing_pages shape pages batch old c was is })
 
       pub place_more : Elapses meaning mid new → ((image : Files) → Now meaning new image → (image_was : Files) × Now meaning mid image_was × TornFile Data at (length bytes) image_was image)
           → (meaning.told mid → meaning.told new) → (meaning.told mid → meaning.files new ≡ put Data (written (content Data (meaning.files mid)) at bytes) (meaning.files mid)) → Running meaning start new Data E (InPlace (i + 1) batch)
@@ -47,11 +47,11 @@ module _ {D : Type 0} (meaning : Meaning D) (start : D) (batch : List RawPage) w
           run_written meaning start Data E mid new (InPlace i batch) at bytes run stays (InPlace (i + 1) batch) time crash told made
           (subst (λ (n : ℕ). InPlace (i + 1) batch (written b n bytes)) (sym place) (subst (λ (l : List ℕ). InPlace (i + 1) batch (written b (BLOCK_SIZE * p.dba) l)) (sym same) holds))
 
-    pub places_leave : (new : D) → Leaves meaning start new (OnlyFile meaning start Data E) → Leaves meaning start new (OnlyFile meaning start Data (HasPages shape (after batch pages)))
-    places_leave new leaves = leaves_so meaning Data start new (HasPages shape (after batch pages)) E leaves (λ c is. placing_pages shape pages batch old c was is)
+    pub places_leave : (new : D) → Leaves meaning start new (OnlyFile meaning start Data E) → Leaves meaning start new (OnlyFile meaning start Data (AsLong old (HasPages shape (after batch pages))))
+    places_leave new leaves = leaves_so meaning Data start new (AsLong old (HasPages shape (after batch pages))) E leaves (λ c is. record { long = is.long; is = placing_pages shape pages batch old c was is })
 
-    pub places_settle : {T F : Type 0} (new : D) (i : ℕ) (r : Result T F) → length batch ≤ i → OnOk r (Settles meaning start new Data (λ (c : List ℕ). E c × InPlace i batch c)) → OnOk r (Settles meaning start new Data (IsPlaced shape pages batch))
-    places_settle new i r all = on_ok r (λ settles. settles_so meaning Data start new (λ (c : List ℕ). E c × InPlace i batch c) (IsPlaced shape pages batch) settles (λ is. record { copies = (placing shape pages batch old _ was is.0).copies; in_place = λ j d lt. is.1 j d (omega arith) }))
+    pub places_settle : {T F : Type 0} (new : D) (i : ℕ) (r : Result T F) → length batch ≤ i → OnOk r (Settles meaning start new Data (λ (c : List ℕ). E c × InPlace i batch c)) → OnOk r (Settles meaning start new Data (AsLong old (IsPlaced shape pages batch)))
+    places_settle new i r all = on_ok r (λ settles. settles_so meaning Data start new (λ (c : List ℕ). E c × InPlace i batch c) (AsLong old (IsPlaced shape pages batch)) settles (λ is. record { long = is.0.long; is = record { copies = (placing shape pages batch old _ was is.0).copies; in_place = λ j d lt. is.1 j d (omega arith) } }))
 
     -- a copy of the area to its block
     module _ (blocks : List ℕ) (named : blocks ≡ head_blocks (block DOUBLE_WRITE_BLOCK old)) (i : ℕ) (lt : i < length blocks) (mid looked : D) (run : Running meaning start mid Data E (InPlace i batch)) (look : Untouched meaning mid looked) where
@@ -64,7 +64,7 @@ module _ {D : Type 0} (meaning : Meaning D) (start : D) (batch : List RawPage) w
       run_on : Running meaning start looked Data E (InPlace i batch)
       run_on = run_looked meaning start Data E mid looked (InPlace i batch) run look
 
-      pub looked_leave : Leaves meaning start looked (OnlyFile meaning start Data (HasPages shape (after batch pages)))
+      pub looked_leave : Leaves meaning start looked (OnlyFile meaning start Data (AsLong old (HasPages shape (after batch pages))))
       looked_leave = places_leave looked run_on.so.leaves
 
       pub all_there : (page : List ℕ) (whole : Bool) → whole ≡ false → IsPartRead (COPIES_AT + BLOCK_SIZE * i) (meaning.files mid).data_bytes page whole → ⊥
@@ -80,7 +80,7 @@ module _ {D : Type 0} (meaning : Meaning D) (start : D) (batch : List RawPage) w
         place = ap (λ (n : ℕ). BLOCK_SIZE * n) (is_block ∙ copy_place shape pages batch old was blocks named i in_batch)
 
         module _ (new : D) (time : Elapses meaning looked new) (crash : (image : Files) → Now meaning new image → (image_was : Files) × Now meaning looked image_was × TornFile Data (BLOCK_SIZE * block_read) (length page) image_was image) where
-          pub place_copy : Leaves meaning start new (OnlyFile meaning start Data (HasPages shape (after batch pages)))
+          pub place_copy : Leaves meaning start new (OnlyFile meaning start Data (AsLong old (HasPages shape (after batch pages))))
           place_copy = place_write looked new i (copy i old) (BLOCK_SIZE * block_read) page in_batch (copy_item shape pages batch old was blocks named i in_batch) place same_page run_on time crash
 
           pub more_copies : (meaning.told looked → meaning.told new) → (meaning.told looked → meaning.files new ≡ put Data (written (content Data (meaning.files looked)) (BLOCK_SIZE * block_read) page) (meaning.files looked)) → Running meaning start new Data E (InPlace (i + 1) batch)
@@ -111,13 +111,13 @@ module _ {D : Type 0} (meaning : Meaning D) (start : D) (batch : List RawPage) (
   area_stays : (at m : ℕ) → AREA_AT + 1 ≤ at → at + m ≤ AREA_END → (b c : List ℕ) → A b → Torn at m b c → A c
   area_stays at m low high b c is torn = stays_torn BesideArea at m before b c (omega (arith, has_area)) (λ k n apart. ⊎_elim (λ le. inl (omega arith)) (λ le. inr (omega arith)) apart) is torn
 
-  pub shut_leave : (new : D) → Leaves meaning start new (OnlyFile meaning start Data A) → Leaves meaning start new (OnlyFile meaning start Data (IsShut shape pages))
-  shut_leave new leaves = leaves_so meaning Data start new (IsShut shape pages) A leaves (λ c is. still_shut shape pages before c was.file is)
+  pub shut_leave : (new : D) → Leaves meaning start new (OnlyFile meaning start Data A) → Leaves meaning start new (OnlyFile meaning start Data (AsLong before (IsShut shape pages)))
+  shut_leave new leaves = leaves_so meaning Data start new (AsLong before (IsShut shape pages)) A leaves (λ c is. record { long = is.long; is = still_shut shape pages before c was.file is })
 
   -- its head
   module _ (mid new : D) (bytes : List ℕ) (head : bytes ≡ drop 1 (page_with (0 ∷ length batch ∷ flat_map dba_bytes batch))) (long : length bytes ≡ (BLOCK_SIZE - 1)) (run : Running meaning start mid Data A Any) (time : Elapses meaning mid new)
       (crash : (image : Files) → Now meaning new image → (image_was : Files) × Now meaning mid image_was × TornFile Data (AREA_AT + 1) (length bytes) image_was image) where
-    pub head_write : Leaves meaning start new (OnlyFile meaning start Data (IsShut shape pages))
+    pub head_write : Leaves meaning start new (OnlyFile meaning start Data (AsLong before (IsShut shape pages)))
     head_write = shut_leave new (run_write meaning start Data A mid new Any (AREA_AT + 1) bytes run (area_stays (AREA_AT + 1) (length bytes) (omega arith) (omega (arith, long))) time crash).leaves
 
     pub head_more : (meaning.told mid → meaning.told new) → (meaning.told mid → meaning.files new ≡ put Data (written (content Data (meaning.files mid)) (AREA_AT + 1) bytes) (meaning.files mid)) → Running meaning start new Data A (Copying batch 0)
@@ -135,7 +135,7 @@ module _ {D : Type 0} (meaning : Meaning D) (start : D) (batch : List RawPage) (
     size : length bytes ≡ BLOCK_SIZE
     size = ap length same ∙ long
 
-    pub copy_write : Leaves meaning start new (OnlyFile meaning start Data (IsShut shape pages))
+    pub copy_write : Leaves meaning start new (OnlyFile meaning start Data (AsLong before (IsShut shape pages)))
     copy_write = shut_leave new (run_write meaning start Data A mid new (Copying batch i) at bytes run (area_stays at (length bytes) (omega arith) (omega (arith, size, lt, few, place))) time crash).leaves
 
     pub copy_more : (meaning.told mid → meaning.told new) → (meaning.told mid → meaning.files new ≡ put Data (written (content Data (meaning.files mid)) at bytes) (meaning.files mid)) → Running meaning start new Data A (Copying batch (i + 1))
@@ -166,6 +166,9 @@ module _ {D : Type 0} (meaning : Meaning D) (start : D) (batch : List RawPage) (
               ];
             }
 
-  pub copies_settle : {T F : Type 0} (new : D) (i : ℕ) (r : Result T F) → is_batch shape (blocks_of batch) ≡ true → length batch ≤ i → OnOk r (Settles meaning start new Data (λ (c : List ℕ). A c × Copying batch i c)) → OnOk r (Settles meaning start new Data (IsCopied shape pages batch))
-  copies_settle new i r places all = on_ok r (λ settles. settles_so meaning Data start new (λ (c : List ℕ). A c × Copying batch i c) (IsCopied shape pages batch) settles (λ is.
-      copied shape pages batch before _ places (by_recursion (λ (p : RawPage). length p.bytes ≡ BLOCK_SIZE) batch (λ j d lt. is.1.whole j d (omega arith))) was.file is.0 is.1.head (λ j d lt. is.1.there j d (omega arith)) (limits shape was.file.has.within).1))
+  pub copies_settle : {T F : Type 0} (new : D) (i : ℕ) (r : Result T F) → is_batch shape (blocks_of batch) ≡ true → length batch ≤ i → OnOk r (Settles meaning start new Data (λ (c : List ℕ). A c × Copying batch i c)) → OnOk r (Settles meaning start new Data (AsLong before (IsCopied shape pages batch)))
+  copies_settle new i r places all = on_ok r (λ settles. settles_so meaning Data start new (λ (c : List ℕ). A c × Copying batch i c) (AsLong before (IsCopied shape pages batch)) settles (λ is. record {
+    long = is.0.long;
+    is =
+        copied shape pages batch before _ places (by_recursion (λ (p : RawPage). length p.bytes ≡ BLOCK_SIZE) batch (λ j d lt. is.1.whole j d (omega arith))) was.file is.0 is.1.head (λ j d lt. is.1.there j d (omega arith)) (limits shape was.file.has.within).1;
+  }))

@@ -1,14 +1,14 @@
 -- An opening, over plain disks.
-use Rattle.std.proofs.Common.{◌≡◌, ◌≢◌, ℕ, ◌+◌, ◌*◌, ◌<◌, ◌≤◌, length, List, Bool, true, false, ◌&&◌, ◌==◌, sym, ◌∙◌, ap, subst, arith, Option, Some, None, Ok, Err}
+use Rattle.std.proofs.Common.{◌≡◌, ◌≢◌, ℕ, ◌+◌, ◌*◌, ◌<◌, ◌≤◌, length, List, Bool, true, false, ◌&&◌, ◌==◌, refl, sym, ◌∙◌, ap, subst, arith, Option, Some, None, Ok, Err}
 use Rattle.seg_words.specs.Types.{Shape, BLOCK_SIZE, DOUBLE_WRITE_BLOCK}
 use Rattle.disk_model.specs.Types.{Meaning, Leaves, Untouched, OnlyFile, IsSettled, Settles}
 use Rattle.disk_model.specs.declared.disk.File.TheVariants.{Data}
-use Rattle.disk_model.proofs.Lemmas.{settles_looked, leaves_looked, settles_then, leaves_then}
-use Rattle.page_store.specs.Types.{part, block, gate, head_blocks, is_place, is_sound_area, needs_finish, HasPages, IsShut, IsUnfinished, Leads, IsPartRead, IsAreaFound, IsOpening, Answers, PageFault, DeviceFault, BadPage, NoMemory}
+use Rattle.disk_model.proofs.Lemmas.{settles_looked, leaves_looked}
+use Rattle.page_store.specs.Types.{part, block, gate, head_blocks, is_place, is_sound_area, needs_finish, HasPages, AsLong, IsShut, IsUnfinished, Leads, IsPartRead, IsAreaFound, IsOpening, Answers, PageFault, DeviceFault, BadPage, NoMemory}
 use Rattle.page_store.proofs.Heads.{is_same}
 use Rattle.page_store.proofs.Batch.{outside}
 use Rattle.page_store.proofs.Stages.{page_shut}
-use Rattle.page_store.proofs.Whole.{settles_lead}
+use Rattle.page_store.proofs.Whole.{settles_lead, settles_long, leaves_long}
 
 -- a fault of the area is that of the opening, and never comes for a store
 pub same_fault : (shape : Shape) (bytes : List ℕ) (fault : PageFault) → IsAreaFound shape bytes (Err fault) → IsOpening shape bytes (Err fault)
@@ -46,21 +46,24 @@ module _ {D : Type 0} (meaning : Meaning D) (shape : Shape) (pages : ℕ → Lis
   abbrev P : List ℕ → Type 0
   P = HasPages shape pages
 
-  pub looked_at : Leaves meaning d0 d1 (OnlyFile meaning d0 Data P)
-  looked_at = leaves_looked meaning Data d0 d1 P settled look has
+  abbrev b0 : List ℕ
+  b0 = (meaning.files d0).data_bytes
+
+  pub looked_at : Leaves meaning d0 d1 (OnlyFile meaning d0 Data (AsLong b0 P))
+  looked_at = leaves_looked meaning Data d0 d1 (AsLong b0 P) settled look (record { long = refl; is = has })
 
   pub was_shut : gate (meaning.files d0).data_bytes ≢ 1 → Leads meaning d0 d1 shape pages
-  was_shut shut = settles_lead meaning d0 d1 shape pages (settles_looked meaning Data d0 d1 (IsShut shape pages) settled look (record { has = has; shut = shut }))
+  was_shut shut = settles_lead meaning d0 d1 shape pages (settles_looked meaning Data d0 d1 (AsLong b0 (IsShut shape pages)) settled look (record { long = refl; is = record { has = has; shut = shut } }))
 
   module _ (blocks : List ℕ) (one : gate (meaning.files d0).data_bytes ≡ 1) (named : blocks ≡ head_blocks (block DOUBLE_WRITE_BLOCK (meaning.files d0).data_bytes)) where
-    pub unfinished : Settles meaning d0 d1 Data (IsUnfinished shape pages blocks)
-    unfinished = settles_looked meaning Data d0 d1 (IsUnfinished shape pages blocks) settled look (record { has = has; one = one; named = named })
+    pub unfinished : Settles meaning d0 d1 Data (AsLong b0 (IsUnfinished shape pages blocks))
+    unfinished = settles_looked meaning Data d0 d1 (AsLong b0 (IsUnfinished shape pages blocks)) settled look (record { long = refl; is = record { has = has; one = one; named = named } })
 
-    pub finish_leaves : (d2 : D) → Leaves meaning d1 d2 (OnlyFile meaning d1 Data P) → Leaves meaning d0 d2 (OnlyFile meaning d0 Data P)
-    finish_leaves d2 leaves = leaves_then meaning Data d0 d1 d2 (IsUnfinished shape pages blocks) unfinished P P looked_at leaves (λ b is. is)
+    pub finish_leaves : (d2 : D) → Leaves meaning d1 d2 (OnlyFile meaning d1 Data (AsLong (meaning.files d1).data_bytes P)) → Leaves meaning d0 d2 (OnlyFile meaning d0 Data (AsLong b0 P))
+    finish_leaves d2 leaves = leaves_long meaning d0 d1 d2 (IsUnfinished shape pages blocks) unfinished P P looked_at leaves (λ b is. is)
 
-    pub finish_leads : (d2 : D) → Settles meaning d1 d2 Data (IsShut shape pages) → Leads meaning d0 d2 shape pages
-    finish_leads d2 settles = settles_lead meaning d0 d2 shape pages (settles_then meaning Data d0 d1 d2 (IsUnfinished shape pages blocks) unfinished (IsShut shape pages) settles)
+    pub finish_leads : (d2 : D) → Settles meaning d1 d2 Data (AsLong (meaning.files d1).data_bytes (IsShut shape pages)) → Leads meaning d0 d2 shape pages
+    finish_leads d2 settles = settles_lead meaning d0 d2 shape pages (settles_long meaning d0 d1 d2 (IsUnfinished shape pages blocks) unfinished (IsShut shape pages) settles)
 
 -- a look at a page of a store
 module _ (shape : Shape) (pages : ℕ → List ℕ) (bytes : List ℕ) (is_shut : IsShut shape pages bytes) (dba : ℕ) (place : is_place shape dba ≡ true) where

@@ -115,7 +115,7 @@ module _ (shape : Shape) (pages : ℕ → List ℕ) where
     at_gate : (a c : List ℕ) → HasCopies shape pages batch a → Stays (Beside AREA_AT 1) a c → HasCopies shape pages batch c
     at_gate a c is stays = still_copies (Beside AREA_AT 1) a c is stays (inr (omega arith)) (λ j lt. inr (omega arith)) (λ b place none. gate_apart b place)
 
-    gate_torn : (a c : List ℕ) → HasCopies shape pages batch a → Torn AREA_AT 1 a c → Stays (Beside AREA_AT 1) a c
+    pub gate_torn : (a c : List ℕ) → HasCopies shape pages batch a → Torn AREA_AT 1 a c → Stays (Beside AREA_AT 1) a c
     gate_torn a c is torn = torn_stays AREA_AT 1 a c (omega (arith, has_area a is)) torn
 
     -- the gate once it was written

@@ -27,14 +27,20 @@ pub record IsUnfinished (shape : Shape) (pages : ℕ → List ℕ) (blocks bytes
   pub one : gate bytes ≡ 1
   pub named : blocks ≡ head_blocks (block DOUBLE_WRITE_BLOCK bytes)
 
+-- it has P, and is as long as another
+pub record AsLong (other : List ℕ) (P : List ℕ → Type 0) (bytes : List ℕ) : Type 0 where
+  pub long : length bytes ≡ length other
+  pub is : P bytes
+
 -- The disk has a store with these pages, between two batches, all of it on the disk.
 pub record IsStore {D : Type 0} (meaning : Meaning D) (disk : D) (shape : Shape) (pages : ℕ → List ℕ) : Type 0 where
   pub settled : IsSettled meaning disk Data
   pub file : IsShut shape pages (meaning.files disk).data_bytes
 
--- A run of calls that changed the data file alone left a store with these pages.
+-- A run of calls that changed the data file alone left a store with these pages, in a file as long as before.
 pub record Leads {D : Type 0} (meaning : Meaning D) (old new : D) (shape : Shape) (pages : ℕ → List ℕ) : Type 0 where
   pub store : IsStore meaning new shape pages
+  pub long : length (meaning.files new).data_bytes ≡ length (meaning.files old).data_bytes
   pub log_stays : (meaning.files new).log_bytes ≡ (meaning.files old).log_bytes
   pub images : (image : Files) → Now meaning new image → OnlyFile meaning old Data (IsShut shape pages) image
 

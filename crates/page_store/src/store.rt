@@ -5,7 +5,7 @@ ghost use Rattle.disk_model.specs.Types.{Leaves, Causes, Untouched, OnlyFile, Is
 ghost use Rattle.disk_model.specs.declared.disk.File.TheVariants.{Data};
 ghost use Rattle.page_store.specs.declared.page.RawPage.{RawPage};
 ghost use Rattle.page_store.specs.Pages.{HasPages, is_place, is_batch, needs_finish};
-ghost use Rattle.page_store.specs.Batches.{after, blocks_of, IsShut, IsStore, IsUnfinished, Leads, WholeOrNot, IsOpening, IsLook, Answers};
+ghost use Rattle.page_store.specs.Batches.{AsLong, after, blocks_of, IsShut, IsStore, IsUnfinished, Leads, WholeOrNot, IsOpening, IsLook, Answers};
 
 use crate::area::{AREA_END, find_area, read_page};
 use crate::page::offset_of;
@@ -35,9 +35,9 @@ impl Model for PageStore {
 fn finish<D: Disk>(disk: &mut D, blocks: &[u32]) -> Result<(), PageFault>
     requires { length blocks.now ≤ DOUBLE_WRITE_PAGES }
     ensures any_moment { (shape : Shape) (pages : ℕ → List ℕ) → IsSettled D.meaning disk.old Data → IsUnfinished shape pages blocks.now (D.meaning.files disk.old).data_bytes
-        → Leaves D.meaning disk.old disk.new (OnlyFile D.meaning disk.old Data (HasPages shape pages)) }
+        → Leaves D.meaning disk.old disk.new (OnlyFile D.meaning disk.old Data (AsLong (D.meaning.files disk.old).data_bytes (HasPages shape pages))) }
     ensures done { (shape : Shape) (pages : ℕ → List ℕ) → IsSettled D.meaning disk.old Data → IsUnfinished shape pages blocks.now (D.meaning.files disk.old).data_bytes
-        → Answers result (λ _. Settles D.meaning disk.old disk.new Data (IsShut shape pages)) }
+        → Answers result (λ _. Settles D.meaning disk.old disk.new Data (AsLong (D.meaning.files disk.old).data_bytes (IsShut shape pages))) }
     ensures whole { D.meaning.told disk.old → AREA_END ≤ length (D.meaning.files disk.old).data_bytes → IfErr result (λ e. e ≡ PageFault.DeviceFault) }
     ensures cause { Causes D.meaning disk.old disk.new (IsErrOf result PageFault.DeviceFault) }
     ensures told { D.meaning.told disk.new ↔ D.meaning.told disk.old }
@@ -57,7 +57,7 @@ fn finish<D: Disk>(disk: &mut D, blocks: &[u32]) -> Result<(), PageFault>
 fn put_batch<D: Disk>(disk: &mut D, batch: &[RawPage]) -> Result<(), Failed>
     requires { length batch.now ≤ DOUBLE_WRITE_PAGES }
     ensures any_moment { (shape : Shape) (pages : ℕ → List ℕ) → IsStore D.meaning disk.old shape pages → is_batch shape (blocks_of batch.now) ≡ true
-        → Leaves D.meaning disk.old disk.new (OnlyFile D.meaning disk.old Data (WholeOrNot shape pages batch.now)) }
+        → Leaves D.meaning disk.old disk.new (OnlyFile D.meaning disk.old Data (AsLong (D.meaning.files disk.old).data_bytes (WholeOrNot shape pages batch.now))) }
     ensures done { (shape : Shape) (pages : ℕ → List ℕ) → IsStore D.meaning disk.old shape pages → is_batch shape (blocks_of batch.now) ≡ true
         → OnOk result (Leads D.meaning disk.old disk.new shape (after batch.now pages)) }
     ensures cause { Causes D.meaning disk.old disk.new (IsErr result) }
@@ -74,10 +74,11 @@ fn put_batch<D: Disk>(disk: &mut D, batch: &[RawPage]) -> Result<(), Failed>
 /// to their blocks, and the gate is closed. `BadPage` of block 4 comes exactly where the file ends before the area does,
 /// or the gate is open and the area's head doesn't name 1 to 32 different blocks of the store outside the area.
 ///
-/// At any moment of the call a crash leaves the pages of a store as they were, as `open` reads them.
+/// At any moment of the call a crash leaves the pages of a store as they were, as `open` reads them, in a file as long
+/// as before.
 pub fn open<D: Disk>(disk: &mut D, shape: Shape) -> Result<PageStore, PageFault>
     ensures any_moment { (pages : ℕ → List ℕ) → IsSettled D.meaning disk.old Data → HasPages shape pages (D.meaning.files disk.old).data_bytes
-        → Leaves D.meaning disk.old disk.new (OnlyFile D.meaning disk.old Data (HasPages shape pages)) }
+        → Leaves D.meaning disk.old disk.new (OnlyFile D.meaning disk.old Data (AsLong (D.meaning.files disk.old).data_bytes (HasPages shape pages))) }
     ensures opened { (pages : ℕ → List ℕ) → IsSettled D.meaning disk.old Data → HasPages shape pages (D.meaning.files disk.old).data_bytes
         → Answers result (λ _. Leads D.meaning disk.old disk.new shape pages) }
     ensures shape { IfOk result (λ store. store ≡ shape) }
@@ -101,12 +102,12 @@ pub fn open<D: Disk>(disk: &mut D, shape: Shape) -> Result<PageStore, PageFault>
 
 impl PageStore {
     /// Writes 1 to 32 pages to different blocks. At any moment of the call a crash leaves all pages as they were, or all
-    /// of them with those of the batch. At `Ok` each crash from then on leaves them with those of the batch. It takes no
-    /// memory. After an `Err` the data file has to be opened again.
+    /// of them with those of the batch, in a file as long as before. At `Ok` each crash from then on leaves them with
+    /// those of the batch. It takes no memory. After an `Err` the data file has to be opened again.
     pub fn put_all<D: Disk>(&mut self, disk: &mut D, batch: &[RawPage]) -> Result<(), PageFault>
         requires { is_batch self.old (blocks_of batch.now) ≡ true }
         ensures any_moment { (pages : ℕ → List ℕ) → IsStore D.meaning disk.old self.old pages
-            → Leaves D.meaning disk.old disk.new (OnlyFile D.meaning disk.old Data (WholeOrNot self.old pages batch.now)) }
+            → Leaves D.meaning disk.old disk.new (OnlyFile D.meaning disk.old Data (AsLong (D.meaning.files disk.old).data_bytes (WholeOrNot self.old pages batch.now))) }
         ensures done { (pages : ℕ → List ℕ) → IsStore D.meaning disk.old self.old pages
             → OnOk result (Leads D.meaning disk.old disk.new self.old (after batch.now pages)) }
         ensures same { self.new ≡ self.old }

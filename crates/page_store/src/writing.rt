@@ -6,7 +6,7 @@ ghost use Rattle.disk_model.specs.Types.{Leaves, Causes, OnlyFile, IsSettled, Se
 ghost use Rattle.disk_model.specs.declared.disk.File.TheVariants.{Data};
 ghost use Rattle.page_store.specs.declared.page.RawPage.{RawPage};
 ghost use Rattle.page_store.specs.Pages.{HasPages, is_batch, block, head_blocks};
-ghost use Rattle.page_store.specs.Batches.{after, blocks_of, IsShut, IsStore, WholeOrNot, Answers};
+ghost use Rattle.page_store.specs.Batches.{AsLong, after, blocks_of, IsShut, IsStore, WholeOrNot, Answers};
 ghost use Rattle.page_store.specs.Steps.{IsCopied, IsOpened, IsPlaced, dba_bytes};
 
 use crate::area::{AREA_AT, AREA_END, AREA_HEAD, COPIES_AT, read_page};
@@ -42,9 +42,9 @@ fn behind_gate(head: &[u8; BLOCK_SIZE]) -> &[u8]
 pub(crate) fn write_copies<D: Disk>(disk: &mut D, batch: &[RawPage]) -> Result<(), Failed>
     requires { length batch.now ≤ DOUBLE_WRITE_PAGES }
     ensures any_moment { (shape : Shape) (pages : ℕ → List ℕ) → IsStore D.meaning disk.old shape pages → is_batch shape (blocks_of batch.now) ≡ true
-        → Leaves D.meaning disk.old disk.new (OnlyFile D.meaning disk.old Data (IsShut shape pages)) }
+        → Leaves D.meaning disk.old disk.new (OnlyFile D.meaning disk.old Data (AsLong (D.meaning.files disk.old).data_bytes (IsShut shape pages))) }
     ensures done { (shape : Shape) (pages : ℕ → List ℕ) → IsStore D.meaning disk.old shape pages → is_batch shape (blocks_of batch.now) ≡ true
-        → OnOk result (Settles D.meaning disk.old disk.new Data (IsCopied shape pages batch.now)) }
+        → OnOk result (Settles D.meaning disk.old disk.new Data (AsLong (D.meaning.files disk.old).data_bytes (IsCopied shape pages batch.now))) }
     ensures cause { Causes D.meaning disk.old disk.new (IsErr result) }
     ensures told { D.meaning.told disk.new ↔ D.meaning.told disk.old }
     ensures reads { D.meaning.log_reads disk.new ≡ D.meaning.log_reads disk.old }
@@ -61,9 +61,9 @@ pub(crate) fn write_copies<D: Disk>(disk: &mut D, batch: &[RawPage]) -> Result<(
 /// Opens the gate of the area: from then on the copies count.
 pub(crate) fn open_area<D: Disk>(disk: &mut D) -> Result<(), Failed>
     ensures any_moment { (shape : Shape) (pages : ℕ → List ℕ) (batch : List RawPage) → IsSettled D.meaning disk.old Data → IsCopied shape pages batch (D.meaning.files disk.old).data_bytes
-        → Leaves D.meaning disk.old disk.new (OnlyFile D.meaning disk.old Data (WholeOrNot shape pages batch)) }
+        → Leaves D.meaning disk.old disk.new (OnlyFile D.meaning disk.old Data (AsLong (D.meaning.files disk.old).data_bytes (WholeOrNot shape pages batch))) }
     ensures done { (shape : Shape) (pages : ℕ → List ℕ) (batch : List RawPage) → IsSettled D.meaning disk.old Data → IsCopied shape pages batch (D.meaning.files disk.old).data_bytes
-        → OnOk result (Settles D.meaning disk.old disk.new Data (IsOpened shape pages batch)) }
+        → OnOk result (Settles D.meaning disk.old disk.new Data (AsLong (D.meaning.files disk.old).data_bytes (IsOpened shape pages batch))) }
     ensures cause { Causes D.meaning disk.old disk.new (IsErr result) }
     ensures told { D.meaning.told disk.new ↔ D.meaning.told disk.old }
     ensures reads { D.meaning.log_reads disk.new ≡ D.meaning.log_reads disk.old }
@@ -74,9 +74,9 @@ pub(crate) fn open_area<D: Disk>(disk: &mut D) -> Result<(), Failed>
 /// Writes the pages to their blocks.
 pub(crate) fn write_places<D: Disk>(disk: &mut D, batch: &[RawPage]) -> Result<(), Failed>
     ensures any_moment { (shape : Shape) (pages : ℕ → List ℕ) → IsSettled D.meaning disk.old Data → IsOpened shape pages batch.now (D.meaning.files disk.old).data_bytes
-        → Leaves D.meaning disk.old disk.new (OnlyFile D.meaning disk.old Data (HasPages shape (after batch.now pages))) }
+        → Leaves D.meaning disk.old disk.new (OnlyFile D.meaning disk.old Data (AsLong (D.meaning.files disk.old).data_bytes (HasPages shape (after batch.now pages)))) }
     ensures done { (shape : Shape) (pages : ℕ → List ℕ) → IsSettled D.meaning disk.old Data → IsOpened shape pages batch.now (D.meaning.files disk.old).data_bytes
-        → OnOk result (Settles D.meaning disk.old disk.new Data (IsPlaced shape pages batch.now)) }
+        → OnOk result (Settles D.meaning disk.old disk.new Data (AsLong (D.meaning.files disk.old).data_bytes (IsPlaced shape pages batch.now))) }
     ensures cause { Causes D.meaning disk.old disk.new (IsErr result) }
     ensures told { D.meaning.told disk.new ↔ D.meaning.told disk.old }
     ensures reads { D.meaning.log_reads disk.new ≡ D.meaning.log_reads disk.old }
@@ -92,10 +92,10 @@ pub(crate) fn place_copies<D: Disk>(disk: &mut D, blocks: &[u32]) -> Result<(), 
     requires { length blocks.now ≤ DOUBLE_WRITE_PAGES }
     ensures any_moment { (shape : Shape) (pages : ℕ → List ℕ) (batch : List RawPage) → IsSettled D.meaning disk.old Data → IsOpened shape pages batch (D.meaning.files disk.old).data_bytes
         → blocks.now ≡ head_blocks (block DOUBLE_WRITE_BLOCK (D.meaning.files disk.old).data_bytes)
-        → Leaves D.meaning disk.old disk.new (OnlyFile D.meaning disk.old Data (HasPages shape (after batch pages))) }
+        → Leaves D.meaning disk.old disk.new (OnlyFile D.meaning disk.old Data (AsLong (D.meaning.files disk.old).data_bytes (HasPages shape (after batch pages)))) }
     ensures done { (shape : Shape) (pages : ℕ → List ℕ) (batch : List RawPage) → IsSettled D.meaning disk.old Data → IsOpened shape pages batch (D.meaning.files disk.old).data_bytes
         → blocks.now ≡ head_blocks (block DOUBLE_WRITE_BLOCK (D.meaning.files disk.old).data_bytes)
-        → Answers result (λ _. Settles D.meaning disk.old disk.new Data (IsPlaced shape pages batch)) }
+        → Answers result (λ _. Settles D.meaning disk.old disk.new Data (AsLong (D.meaning.files disk.old).data_bytes (IsPlaced shape pages batch))) }
     ensures whole { D.meaning.told disk.old → AREA_END ≤ length (D.meaning.files disk.old).data_bytes → IfErr result (λ e. e ≡ PageFault.DeviceFault) }
     ensures cause { Causes D.meaning disk.old disk.new (IsErrOf result PageFault.DeviceFault) }
     ensures told { D.meaning.told disk.new ↔ D.meaning.told disk.old }
@@ -115,9 +115,9 @@ pub(crate) fn place_copies<D: Disk>(disk: &mut D, blocks: &[u32]) -> Result<(), 
 /// Closes the gate of the area, whose pages stand in their blocks.
 pub(crate) fn close_area<D: Disk>(disk: &mut D) -> Result<(), Failed>
     ensures any_moment { (shape : Shape) (pages : ℕ → List ℕ) (batch : List RawPage) → IsSettled D.meaning disk.old Data → IsPlaced shape pages batch (D.meaning.files disk.old).data_bytes
-        → Leaves D.meaning disk.old disk.new (OnlyFile D.meaning disk.old Data (HasPages shape (after batch pages))) }
+        → Leaves D.meaning disk.old disk.new (OnlyFile D.meaning disk.old Data (AsLong (D.meaning.files disk.old).data_bytes (HasPages shape (after batch pages)))) }
     ensures done { (shape : Shape) (pages : ℕ → List ℕ) (batch : List RawPage) → IsSettled D.meaning disk.old Data → IsPlaced shape pages batch (D.meaning.files disk.old).data_bytes
-        → OnOk result (Settles D.meaning disk.old disk.new Data (IsShut shape (after batch pages))) }
+        → OnOk result (Settles D.meaning disk.old disk.new Data (AsLong (D.meaning.files disk.old).data_bytes (IsShut shape (after batch pages)))) }
     ensures cause { Causes D.meaning disk.old disk.new (IsErr result) }
     ensures told { D.meaning.told disk.new ↔ D.meaning.told disk.old }
     ensures reads { D.meaning.log_reads disk.new ≡ D.meaning.log_reads disk.old }

@@ -1,7 +1,7 @@
 use Rattle.std.proofs.Common.{arith, ap, length}
 use Rattle.disk_model.specs.Types.{Files, Settles}
 use Rattle.disk_model.specs.declared.disk.File.TheVariants.{Data}
-use Rattle.page_store.specs.Types.{IsShut, Leads}
+use Rattle.page_store.specs.Types.{AsLong, IsShut, Leads}
 use Rattle.page_store.proofs.Heads.{sound_long}
 use Rattle.page_store.proofs.Whole.{fault_answers}
 use Rattle.page_store.proofs.Opening.{same_fault, not_bad, none_found, some_found, device_fault, finished_only, looked_at, was_shut, unfinished, finish_leaves, finish_leads}
@@ -64,7 +64,7 @@ returns-in-Ok-clause-any_moment g c pages settled has =
     let blocks = c.as_slice.result.now in
     let found = some_found c.args.shape bytes c.in-Ok-Some.field-0 c.in-Ok-Some.area blocks c.in-Ok-Some.field-0-is c.as_slice.ensures (c.in-Ok-Some.ensures.found settled.told) in
     let mid = unfinished meaning c.args.shape pages d0 d1 settled has look blocks found.1 found.2 in
-    finish_leaves meaning c.args.shape pages d0 d1 settled has look blocks found.1 found.2 d2 (c.finish.ensures.any_moment c.args.shape pages mid.settled mid.holds)
+    finish_leaves meaning c.args.shape pages d0 d1 settled has look blocks found.1 found.2 d2 (c.finish.ensures.any_moment c.args.shape pages mid.settled mid.holds.is)
 
 pub returns-in-Err-finish-clause-any_moment : goal.returns-in-Err-finish-clause-any_moment
 returns-in-Err-finish-clause-any_moment g c pages settled has =
@@ -77,7 +77,7 @@ returns-in-Err-finish-clause-any_moment g c pages settled has =
     let blocks = c.as_slice.result.now in
     let found = some_found c.args.shape bytes c.in-Ok-Some.field-0 c.in-Ok-Some.area blocks c.in-Ok-Some.field-0-is c.as_slice.ensures (c.in-Ok-Some.ensures.found settled.told) in
     let mid = unfinished meaning c.args.shape pages d0 d1 settled has look blocks found.1 found.2 in
-    finish_leaves meaning c.args.shape pages d0 d1 settled has look blocks found.1 found.2 d2 (c.finish.ensures.any_moment c.args.shape pages mid.settled mid.holds)
+    finish_leaves meaning c.args.shape pages d0 d1 settled has look blocks found.1 found.2 d2 (c.finish.ensures.any_moment c.args.shape pages mid.settled mid.holds.is)
 
 pub returns-in-Ok-clause-opened : goal.returns-in-Ok-clause-opened
 returns-in-Ok-clause-opened g c pages settled has =
@@ -90,7 +90,7 @@ returns-in-Ok-clause-opened g c pages settled has =
     let blocks = c.as_slice.result.now in
     let found = some_found c.args.shape bytes c.in-Ok-Some.field-0 c.in-Ok-Some.area blocks c.in-Ok-Some.field-0-is c.as_slice.ensures (c.in-Ok-Some.ensures.found settled.told) in
     let mid = unfinished meaning c.args.shape pages d0 d1 settled has look blocks found.1 found.2 in
-    finish_leads meaning c.args.shape pages d0 d1 settled has look blocks found.1 found.2 d2 (c.in-Ok.ensures.done c.args.shape pages mid.settled mid.holds)
+    finish_leads meaning c.args.shape pages d0 d1 settled has look blocks found.1 found.2 d2 (c.in-Ok.ensures.done c.args.shape pages mid.settled mid.holds.is)
 
 pub returns-in-Err-finish-clause-opened : goal.returns-in-Err-finish-clause-opened
 returns-in-Err-finish-clause-opened g c pages settled has =
@@ -103,7 +103,7 @@ returns-in-Err-finish-clause-opened g c pages settled has =
     let blocks = c.as_slice.result.now in
     let found = some_found c.args.shape bytes c.in-Ok-Some.field-0 c.in-Ok-Some.area blocks c.in-Ok-Some.field-0-is c.as_slice.ensures (c.in-Ok-Some.ensures.found settled.told) in
     let mid = unfinished meaning c.args.shape pages d0 d1 settled has look blocks found.1 found.2 in
-    fault_answers c.in-Err-finish.fault (λ _. Settles meaning d1 d2 Data (IsShut c.args.shape pages)) (λ _. Leads meaning d0 d2 c.args.shape pages) (c.in-Err-finish.ensures.done c.args.shape pages mid.settled mid.holds)
+    fault_answers c.in-Err-finish.fault (λ _. Settles meaning d1 d2 Data (AsLong (meaning.files d1).data_bytes (IsShut c.args.shape pages))) (λ _. Leads meaning d0 d2 c.args.shape pages) (c.in-Err-finish.ensures.done c.args.shape pages mid.settled mid.holds.is)
 
 pub returns-in-Ok-clause-found : goal.returns-in-Ok-clause-found
 returns-in-Ok-clause-found g c told =

@@ -20,7 +20,7 @@ returns-in_err-open_area-clause-any_moment g c shape pages store places =
     let l1 = c.write_copies.ensures.any_moment shape pages store places in
     let s1 = c.in_ok-write_copies.ensures.done shape pages store places in
     let d2 = c.open_area.new.disk in
-    let l2 = c.open_area.ensures.any_moment shape pages batch s1.settled s1.holds in
+    let l2 = c.open_area.ensures.any_moment shape pages batch s1.settled s1.holds.is in
     second_leaves meaning shape pages batch d0 d1 l1 s1 d2 l2
 
 pub returns-in_err-write_places-clause-any_moment : goal.returns-in_err-write_places-clause-any_moment
@@ -32,10 +32,10 @@ returns-in_err-write_places-clause-any_moment g c shape pages store places =
     let l1 = c.write_copies.ensures.any_moment shape pages store places in
     let s1 = c.in_ok-write_copies.ensures.done shape pages store places in
     let d2 = c.open_area.new.disk in
-    let l2 = c.open_area.ensures.any_moment shape pages batch s1.settled s1.holds in
-    let s2 = c.in_ok-open_area.ensures.done shape pages batch s1.settled s1.holds in
+    let l2 = c.open_area.ensures.any_moment shape pages batch s1.settled s1.holds.is in
+    let s2 = c.in_ok-open_area.ensures.done shape pages batch s1.settled s1.holds.is in
     let d3 = c.write_places.new.disk in
-    let l3 = c.write_places.ensures.any_moment shape pages s2.settled s2.holds in
+    let l3 = c.write_places.ensures.any_moment shape pages s2.settled s2.holds.is in
     third_leaves meaning shape pages batch d0 d1 l1 s1 d2 l2 s2 d3 l3
 
 pub returns-clause-any_moment : goal.returns-clause-any_moment
@@ -47,13 +47,13 @@ returns-clause-any_moment g c shape pages store places =
     let l1 = c.write_copies.ensures.any_moment shape pages store places in
     let s1 = c.in_ok-write_copies.ensures.done shape pages store places in
     let d2 = c.open_area.new.disk in
-    let l2 = c.open_area.ensures.any_moment shape pages batch s1.settled s1.holds in
-    let s2 = c.in_ok-open_area.ensures.done shape pages batch s1.settled s1.holds in
+    let l2 = c.open_area.ensures.any_moment shape pages batch s1.settled s1.holds.is in
+    let s2 = c.in_ok-open_area.ensures.done shape pages batch s1.settled s1.holds.is in
     let d3 = c.write_places.new.disk in
-    let l3 = c.write_places.ensures.any_moment shape pages s2.settled s2.holds in
-    let s3 = c.in_ok-write_places.ensures.done shape pages s2.settled s2.holds in
+    let l3 = c.write_places.ensures.any_moment shape pages s2.settled s2.holds.is in
+    let s3 = c.in_ok-write_places.ensures.done shape pages s2.settled s2.holds.is in
     let d4 = c.close_area.new.disk in
-    fourth_leaves meaning shape pages batch d0 d1 l1 s1 d2 l2 s2 d3 l3 s3 d4 (c.close_area.ensures.any_moment shape pages batch s3.settled s3.holds)
+    fourth_leaves meaning shape pages batch d0 d1 l1 s1 d2 l2 s2 d3 l3 s3 d4 (c.close_area.ensures.any_moment shape pages batch s3.settled s3.holds.is)
 
 pub returns-clause-done : goal.returns-clause-done
 returns-clause-done g c shape pages store places =
@@ -64,10 +64,10 @@ returns-clause-done g c shape pages store places =
     let l1 = c.write_copies.ensures.any_moment shape pages store places in
     let s1 = c.in_ok-write_copies.ensures.done shape pages store places in
     let d2 = c.open_area.new.disk in
-    let l2 = c.open_area.ensures.any_moment shape pages batch s1.settled s1.holds in
-    let s2 = c.in_ok-open_area.ensures.done shape pages batch s1.settled s1.holds in
+    let l2 = c.open_area.ensures.any_moment shape pages batch s1.settled s1.holds.is in
+    let s2 = c.in_ok-open_area.ensures.done shape pages batch s1.settled s1.holds.is in
     let d3 = c.write_places.new.disk in
-    let l3 = c.write_places.ensures.any_moment shape pages s2.settled s2.holds in
-    let s3 = c.in_ok-write_places.ensures.done shape pages s2.settled s2.holds in
+    let l3 = c.write_places.ensures.any_moment shape pages s2.settled s2.holds.is in
+    let s3 = c.in_ok-write_places.ensures.done shape pages s2.settled s2.holds.is in
     let d4 = c.close_area.new.disk in
-    on_ok c.close_area.result (all_lead meaning shape pages batch d0 d1 l1 s1 d2 l2 s2 d3 l3 s3 d4) (c.close_area.ensures.done shape pages batch s3.settled s3.holds)
+    on_ok c.close_area.result (all_lead meaning shape pages batch d0 d1 l1 s1 d2 l2 s2 d3 l3 s3 d4) (c.close_area.ensures.done shape pages batch s3.settled s3.holds.is)

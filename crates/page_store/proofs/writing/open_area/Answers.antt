@@ -1,19 +1,22 @@
 use Rattle.std.proofs.Common.{◌∷◌, []}
-use Rattle.disk_model.specs.Types.{Torn, written}
+use Rattle.disk_model.specs.Types.{Torn, written, torn_written}
 use Rattle.disk_model.specs.declared.disk.File.TheVariants.{Data}
 use Rattle.disk_model.proofs.Lemmas.{on_ok, leaves_so, put_settles}
-use Rattle.page_store.specs.Types.{WholeOrNot, IsOpened, AREA_AT}
-use Rattle.page_store.proofs.Stages.{opening, opened}
+use Rattle.page_store.specs.Types.{AsLong, WholeOrNot, IsOpened, AREA_AT}
+use Rattle.page_store.proofs.Stages.{gate_torn, opening, opened}
 use Rattle.page_store.proofs.writing.open_area.Goals as goal
 
 pub returns-clause-any_moment : goal.returns-clause-any_moment
 returns-clause-any_moment g c shape pages batch settled copied =
     let meaning = g.D.Disk.meaning in
     let old = (meaning.files c.args.disk.now).data_bytes in
-    leaves_so meaning Data c.args.disk.now c.write_and_sync.new.disk (WholeOrNot shape pages batch) (Torn AREA_AT 1 old) (c.write_and_sync.ensures.any_moment settled) (λ b torn. opening shape pages batch old b copied torn)
+    leaves_so meaning Data c.args.disk.now c.write_and_sync.new.disk (AsLong old (WholeOrNot shape pages batch)) (Torn AREA_AT 1 old) (c.write_and_sync.ensures.any_moment settled)
+    (λ b torn. record { long = (gate_torn shape pages batch old b copied.copies torn).long; is = opening shape pages batch old b copied torn })
 
 pub returns-clause-done : goal.returns-clause-done
 returns-clause-done g c shape pages batch settled copied =
     let meaning = g.D.Disk.meaning in
     let old = (meaning.files c.args.disk.now).data_bytes in
-    on_ok c.write_and_sync.result (λ put. put_settles meaning Data c.args.disk.now c.write_and_sync.new.disk (written old AREA_AT (1 ∷ [])) (IsOpened shape pages batch) put (opened shape pages batch old copied)) (c.write_and_sync.ensures.put settled)
+    let new = written old AREA_AT (1 ∷ []) in
+    let long = (gate_torn shape pages batch old new copied.copies (torn_written old (1 ∷ []) AREA_AT)).long in
+    on_ok c.write_and_sync.result (λ put. put_settles meaning Data c.args.disk.now c.write_and_sync.new.disk new (AsLong old (IsOpened shape pages batch)) put (record { long = long; is = opened shape pages batch old copied })) (c.write_and_sync.ensures.put settled)

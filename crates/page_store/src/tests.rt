@@ -79,6 +79,8 @@ fn a_stop_leaves_a_batch_whole_or_not_at_all(rt: HostRuntime) -> Result<(), Fail
                 found == after || (!done && found == before),
                 "{tear:?} at {writes}"
             );
+            let gate = image.bytes(File::Data).get(AREA_AT as usize).copied();
+            assert_eq!(rt; gate, Some(0), "{tear:?} at {writes}");
         }
     }
     Ok(())

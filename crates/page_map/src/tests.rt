@@ -90,3 +90,28 @@ fn each_page_has_the_number_of_its_last_record(rt: HostRuntime) -> Result<(), Fa
     assert!(rt; number_at(&pages, 64) == None);
     Ok(())
 }
+
+// The pages after the run's records, but for the first so many.
+fn made(alloc: Global, skipped: usize) -> Result<Result<Pages, PageFault>, Fail> {
+    let mut records = Vec::new(alloc);
+    for bytes in RUN.iter().skip(skipped) {
+        let (rec, _) = decode(alloc, bytes, 0)?;
+        records.push(rec)?;
+    }
+    Ok(Pages::after(alloc, &SHAPE, &records))
+}
+
+// Alone, a row record finds no transaction table.
+#[test]
+fn records_are_put_into_pages_in_their_order(rt: HostRuntime) -> Result<(), Fail> {
+    let alloc = rt.alloc();
+    let pages = made(alloc, 0)??;
+    for (block, number) in [(1, 7), (42, 3), (43, 7)] {
+        assert_eq!(rt; number_at(&pages, block), Some(Lsn(number)));
+    }
+    assert_eq!(rt;
+        made(alloc, 6)?.err(),
+        Some(PageFault::BadPage { block: 1 })
+    );
+    Ok(())
+}

@@ -43,6 +43,7 @@ fn records_wait_and_are_read_again(rt: HostRuntime) -> Result<(), Fail> {
     assert_eq!(rt; (log.unwritten(), log.stable()), (42, Lsn(0)));
     log.flush(&mut disk)?;
     assert_eq!(rt; (log.unwritten(), log.stable()), (0, Lsn(3)));
+    assert_eq!(rt; (log.end(), log.count()), (110, Lsn(3)));
     assert_eq!(rt; log.append_commit(TxnId(2), Scn(1), 4), Lsn(4));
     log.flush(&mut disk)?;
     let commit = b"\x01\0\0\0\x12\x0f\0\0\0\0\0\0\0\x02\0\0\0\0\0\0\0\x01\x04\0";

@@ -18,7 +18,7 @@ use Rattle.version_laws.proofs.SlotLaw.{slots_are_known}
 
 -- slots
 
-writer_begun : (sh : Shape) (R : List Record) (b k u : ℕ) → AreAllowed sh R → (image R b k).writer ≡ By u → u ≤ txn_count R
+pub writer_begun : (sh : Shape) (R : List Record) (b k u : ℕ) → AreAllowed sh R → (image R b k).writer ≡ By u → u ≤ txn_count R
 writer_begun sh R b k u a e = go (image R b k) (makers R b k) e (writers_are_told sh R 0 0 b k a (inl refl)).images (slots_are_known sh R b k a).made (slots_are_known sh R b k a).ends
   where
     go : (i : Slot) (ms : List Made) → i.writer ≡ By u → EachTells R 0 0 i ms → EachMade (MadeKnown R) ms → EndsNew i ms → u ≤ txn_count R
@@ -52,28 +52,28 @@ entry_begun sh (r ∷ R) b i h = le_trans (entry_effect sh R (effect_of r) b i (
 
 -- lists
 
-every_at : {A : Type 0} (P : A → Type 0) (d : A) (xs : List A) → ((k : ℕ) → P (get_or xs k d)) → Every P xs
+pub every_at : {A : Type 0} (P : A → Type 0) (d : A) (xs : List A) → ((k : ℕ) → P (get_or xs k d)) → Every P xs
 every_at P d [] h = tt
 every_at P d (x ∷ xs) h = (h 0, every_at P d xs (λ k. h (suc k)))
 
-sums_same : {A : Type 0} (f g : A → ℕ) (xs : List A) → Every (λ x. f x ≡ g x) xs → sum_by f xs ≡ sum_by g xs
+pub sums_same : {A : Type 0} (f g : A → ℕ) (xs : List A) → Every (λ x. f x ≡ g x) xs → sum_by f xs ≡ sum_by g xs
 sums_same f g [] h = refl
 sums_same f g (x ∷ xs) h = sum_by-cons f x xs ∙ ap₂ (λ (m n : ℕ). m + n) h.0 (sums_same f g xs h.1) ∙ sym (sum_by-cons g x xs)
 
-places_same : {A : Type 0} (f g : A → Bool) (xs : List A) → Every (λ x. f x ≡ g x) xs → position_or_len f xs ≡ position_or_len g xs
+pub places_same : {A : Type 0} (f g : A → Bool) (xs : List A) → Every (λ x. f x ≡ g x) xs → position_or_len f xs ≡ position_or_len g xs
 places_same f g [] h = refl
 places_same f g (x ∷ xs) h = ap₂ (λ (v : Bool) (n : ℕ). cond (not v) (1 + n) 0) h.0 (places_same f g xs h.1)
 
-none_place : {A : Type 0} (f : A → Bool) (xs : List A) → Every (λ x. f x ≡ false) xs → position_or_len f xs ≡ length xs
+pub none_place : {A : Type 0} (f : A → Bool) (xs : List A) → Every (λ x. f x ≡ false) xs → position_or_len f xs ≡ length xs
 none_place f [] h = refl
 none_place f (x ∷ xs) h = ap₂ (λ (v : Bool) (n : ℕ). cond (not v) (1 + n) 0) h.0 (none_place f xs h.1) ∙ omega arith
 
 -- what a block takes, by three numbers
 
-abbrev made_by : ℕ → Block → Option ℕ
+abbrev pub made_by : ℕ → Block → Option ℕ
 made_by used x = if nat_lt (length x.entries) 8 && nat_le 24 (4032 - used) then Some (length x.entries) else None
 
-abbrev other_by : ℕ → ℕ → Block → Option ℕ
+abbrev pub other_by : ℕ → ℕ → Block → Option ℕ
 other_by used spare x = if nat_lt spare (length x.entries) then Some spare else made_by used x
 
 abbrev beside_by : ℕ → ℕ → ℕ → Block → ℕ → Option ℕ → Bool
@@ -86,20 +86,20 @@ beside_same f pct x len (Some e) = refl
 
 -- one more transaction is active
 
-record Begun (f g : ℕ → Bool) (t : ℕ) (x : Block) : Type 0 where
-  writers : Every (λ (s : Slot). writer_has_ended g s.writer ≡ writer_has_ended f s.writer) x.slots
-  spares : Every (λ (e : ListEntry). is_spare g e ≡ is_spare f e) x.entries
-  strange : Every (λ (e : ListEntry). names t e ≡ false) x.entries
+pub record Begun (f g : ℕ → Bool) (t : ℕ) (x : Block) : Type 0 where
+  pub writers : Every (λ (s : Slot). writer_has_ended g s.writer ≡ writer_has_ended f s.writer) x.slots
+  pub spares : Every (λ (e : ListEntry). is_spare g e ≡ is_spare f e) x.entries
+  pub strange : Every (λ (e : ListEntry). names t e ≡ false) x.entries
 
-sizes : (f g : ℕ → Bool) (ss : List Slot) → Every (λ (s : Slot). writer_has_ended g s.writer ≡ writer_has_ended f s.writer) ss → Every (λ (s : Slot). slot_size g s ≡ slot_size f s) ss
+pub sizes : (f g : ℕ → Bool) (ss : List Slot) → Every (λ (s : Slot). writer_has_ended g s.writer ≡ writer_has_ended f s.writer) ss → Every (λ (s : Slot). slot_size g s ≡ slot_size f s) ss
 sizes f g [] h = tt
 sizes f g (s ∷ ss) h = (ap (λ (v : Bool). 40 + (if v then length s.bytes else s.room)) h.0, sizes f g ss h.1)
 
-reusables : (f g : ℕ → Bool) (ss : List Slot) → Every (λ (s : Slot). writer_has_ended g s.writer ≡ writer_has_ended f s.writer) ss → Every (λ (s : Slot). is_reusable g s ≡ is_reusable f s) ss
+pub reusables : (f g : ℕ → Bool) (ss : List Slot) → Every (λ (s : Slot). writer_has_ended g s.writer ≡ writer_has_ended f s.writer) ss → Every (λ (s : Slot). is_reusable g s ≡ is_reusable f s) ss
 reusables f g [] h = tt
 reusables f g (s ∷ ss) h = (ap (λ (v : Bool). is_empty s.kind && v) h.0, reusables f g ss h.1)
 
-takes_same : (f g : ℕ → Bool) (t : ℕ) (x : Block) (pct len : ℕ) → Begun f g t x → takes_beside g pct x len (option_map (entry_size x) (entry_for g x t)) ≡ takes_beside f pct x len (option_map (entry_size x) (other_entry f x))
+pub takes_same : (f g : ℕ → Bool) (t : ℕ) (x : Block) (pct len : ℕ) → Begun f g t x → takes_beside g pct x len (option_map (entry_size x) (entry_for g x t)) ≡ takes_beside f pct x len (option_map (entry_size x) (other_entry f x))
 takes_same f g t x pct len h =
     let used : used_of g x ≡ used_of f x = ap (λ n. n + 24 * (length x.entries - 2)) (sums_same (slot_size g) (slot_size f) x.slots (sizes f g x.slots h.writers)) in
     let slot : slot_to_use g x ≡ slot_to_use f x = places_same (is_reusable g) (is_reusable f) x.slots (reusables f g x.slots h.writers) in
@@ -117,7 +117,7 @@ takes_same f g t x pct len h =
 agree : (R : List Record) (t n u : ℕ) → t ≡ suc n → u ≤ n → not (eqb t u || is_active R u) ≡ not (is_active R u)
 agree R t n u e l = ap (λ v. not (v || is_active R u)) (ne_eqb t u (λ s. absurd (omega (arith, e, l, s))))
 
-begun : (sh : Shape) (R : List Record) (g : BeginRecord) (b : ℕ) → AreAllowed sh R → g.txn ≡ suc (txn_count R) → Begun (ended_in R) (ended_in (Begin g ∷ R)) g.txn (block_of R b)
+pub begun : (sh : Shape) (R : List Record) (g : BeginRecord) (b : ℕ) → AreAllowed sh R → g.txn ≡ suc (txn_count R) → Begun (ended_in R) (ended_in (Begin g ∷ R)) g.txn (block_of R b)
 begun sh R g b a e = record {
   writers = every_at _ new_slot (slots_of R b) (λ k. subst (λ (s : Slot). writer_has_ended (ended_in (Begin g ∷ R)) s.writer ≡ writer_has_ended (ended_in R) s.writer) (sym (image_is R b k)) (one (image R b k).writer (λ u x. writer_begun sh R b k u a x)));
   spares = every_at _ new_entry (entries_of R b) (λ i. subst (λ (x : ListEntry). is_spare (ended_in (Begin g ∷ R)) x ≡ is_spare (ended_in R) x) (sym (entry_is R b i)) (ap (λ v. (entry R b i).txn == 0 || v) (agree R g.txn (txn_count R) (entry R b i).txn e (entry_begun sh R b i a))));

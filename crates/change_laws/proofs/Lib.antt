@@ -1,0 +1,9 @@
+pub mod ReadyLaw
+pub mod SpotLaw
+pub mod BegunLaw
+pub mod CauseLaw
+pub mod LookLaw
+pub mod FindLaw
+pub mod ShowLaw
+pub mod Computing
+pub mod BodyLaw

@@ -1,0 +1,5 @@
+use Rattle.change_laws.proofs.BegunLaw as laws
+use Rattle.change_laws.proofs.begins.begins_keep_mays.Goals as goal
+
+pub returns : goal.returns
+returns c = laws.begins_keep_mays

@@ -1,0 +1,11 @@
+pub mod Drafts
+pub mod Spots
+pub mod Ready
+pub mod Allowed
+pub mod Begun
+pub mod Causes
+pub mod Looks
+pub mod Finds
+pub mod Shows
+pub mod Examples
+pub mod Types

@@ -172,6 +172,14 @@ impl Pages {
         self.pages.get(dba.0 as usize)
     }
 
+    /// The page of a block that is there.
+    pub fn frame(&self, dba: Dba) -> &Page
+        requires { dba < length self.now }
+        ensures { result.now ≡ page_at self.now dba }
+    {
+        &self.pages[dba.0 as usize]
+    }
+
     /// The pages that the record changes, changed. No page is put into its place.
     #[tactic(auto, using(crate::proofs::Folding::leads))]
     pub fn prepare(

@@ -1,0 +1,14 @@
+use Rattle.std.proofs.Common.{[], refl}
+use Rattle.redo_log.specs.Lasting.{IsOpened}
+use Rattle.store_core.proofs.LogRead.{log_sound, not_open_log}
+use Rattle.store_core.proofs.opening.log_of.Goals as goal
+
+pub returns-in-Ok-clause-whole : goal.returns-in-Ok-clause-whole
+returns-in-Ok-clause-whole g c = λ sh groups R settled log holds. c.in-Ok.ensures.whole sh [] groups [] R settled log refl refl holds
+
+pub returns-in-Err-clause-whole : goal.returns-in-Err-clause-whole
+returns-in-Err-clause-whole g c = λ sh groups R settled log holds.
+    c.of_log.ensures.sound (log_sound c.in-Err.fault (IsOpened g.D.Disk.meaning c.open.new.disk sh groups groups [] R) (c.in-Err.ensures.whole sh [] groups [] R settled log refl refl holds))
+
+pub returns-in-Err-clause-not_open : goal.returns-in-Err-clause-not_open
+returns-in-Err-clause-not_open g c = λ told e. not_open_log (g.D.Disk.meaning.files c.args.disk.now).log_bytes c.in-Err.fault (c.of_log.ensures.not_open (cc e)) (c.in-Err.ensures.found [] told refl)

@@ -1,0 +1,19 @@
+//! The store: a disk that it was lent, the redo list in its log, and the pages of its blocks, which are the fold of that list.
+//!
+//! `prepare` and `Store::over`, or `replay`, which is both, make a store of a disk. Records are added by `record`,
+//! `record_two` and `record_commit`, each where it is allowed, and by `take` and `take_two`, whatever they are. `page` lends the
+//! page of a block.
+#![tactic(auto)]
+
+mod adding;
+mod fault;
+mod flushing;
+mod mark;
+mod opening;
+mod pages;
+mod store;
+
+pub use fault::{StoreFault, StoreOpen};
+pub use mark::{Lowered, MarkStep};
+pub use opening::{prepare, replay};
+pub use store::{Loaded, Store};

@@ -1,0 +1,9 @@
+pub mod Numbers
+pub mod MovementsLaw
+pub mod FormatBests
+pub mod TablesThere
+pub mod SameRecords
+pub mod MovesLaw
+pub mod SearchesLaw
+pub mod ThereLaw
+pub mod Computing

@@ -1,0 +1,6 @@
+pub mod Movements
+pub mod Drafts
+pub mod Moves
+pub mod Searches
+pub mod There
+pub mod Worked

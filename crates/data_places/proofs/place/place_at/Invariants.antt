@@ -1,0 +1,6 @@
+use Rattle.std.proofs.Common.{◌≡◌, ◌+◌}
+use Rattle.data_places.specs.Places.{data_count as count_of}
+use Rattle.data_places.proofs.place.place_at.Given as goal
+
+abbrev pub invariant-loop-index : goal.invariant-loop-index
+invariant-loop-index l = l.position ≡ count_of l.shape l.index + l.left

@@ -1,0 +1,55 @@
+// What a page of the bitmaps says.
+ghost use Rattle.std.specs.Prelude.{ℕ, ◌≡◌, ◌<◌, ◌+◌, ◌*◌, true, List, IfOk, IsOk};
+ghost use Rattle.seg_words.specs.Types.{Shape as TheShape, first_block};
+ghost use Rattle.redo_model.specs.Records.{Record};
+ghost use Rattle.redo_model.specs.Model.{Extent, best_in_l1, best_in_l2, code_of, extent_data};
+ghost use Rattle.redo_laws.specs.Among.{is_in};
+ghost use Rattle.page_says.specs.Levels.{SaysFirst, SaysSecond, SaysThird};
+
+use crate::WrongPage;
+use page_set::Page;
+
+/// The code of a data block, the nth of its extent, by the page of the extent's first level: that of its kept class, 1 to 5,
+/// once it is formatted, else 0.
+#[tactic(auto, using(crate::proofs::Codes::code_says))]
+pub fn code_of_block(page: &Page, nth: u16) -> Result<u8, WrongPage>
+    ensures says { (sh : TheShape) (R : List Record) (index : ℕ) (e : Extent) → SaysFirst sh R index e page.now → is_in (first_block sh e.number + nth) (extent_data sh index e.number) ≡ true → IfOk result (λ c. c ≡ code_of sh R (first_block sh e.number + nth)) }
+    ensures right { (sh : TheShape) (R : List Record) (index : ℕ) (e : Extent) → SaysFirst sh R index e page.now → nth < 64 → IsOk result }
+{
+    let Page::First(map) = page else {
+        return Err(WrongPage);
+    };
+    if nth >= 64 {
+        return Err(WrongPage);
+    }
+    Ok(map.get(nth))
+}
+
+/// The best code from 2 on of the data blocks of an extent, else 0, by the page of the second level: the extent is the nth of
+/// those that it covers.
+pub fn best_of_extent(page: &Page, nth: u16) -> Result<u8, WrongPage>
+    ensures says { (sh : TheShape) (R : List Record) (o start : ℕ) → SaysSecond sh R o start page.now → IfOk result (λ c. c ≡ best_in_l1 sh R o (start + nth)) }
+    ensures right { (sh : TheShape) (R : List Record) (o start : ℕ) → SaysSecond sh R o start page.now → nth < 300 → IsOk result }
+{
+    let Page::Second(map) = page else {
+        return Err(WrongPage);
+    };
+    if nth >= 300 {
+        return Err(WrongPage);
+    }
+    Ok(map.get(nth))
+}
+
+/// The best of the extents that the nth second level covers, by the page of the third level.
+pub fn best_of_group(page: &Page, nth: u16) -> Result<u8, WrongPage>
+    ensures says { (sh : TheShape) (R : List Record) (o : ℕ) → SaysThird sh R o page.now → IfOk result (λ c. c ≡ best_in_l2 sh R o (300 * nth)) }
+    ensures right { (sh : TheShape) (R : List Record) (o : ℕ) → SaysThird sh R o page.now → nth < 3 → IsOk result }
+{
+    let Page::Third(map) = page else {
+        return Err(WrongPage);
+    };
+    if nth >= 3 {
+        return Err(WrongPage);
+    }
+    Ok(map.get(nth))
+}

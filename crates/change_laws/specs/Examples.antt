@@ -14,16 +14,16 @@ moved_row = Apart (at_place 43 0) (at_place 44 0)
 
 pub record ExamplesRight : Type 0 where
   pub begun : Begin (begin_of (drop 5 nine) 1 0 0) ∷ drop 5 nine ≡ drop 4 nine
-  pub inserted : list_with small (drop 4 nine) 1 (insert_of (drop 4 nine) 1 43 hello) ≡ drop 2 nine
+  pub inserted : list_with small (drop 4 nine) 1 (insert_of (drop 4 nine) 1 43 hello) ≡ Some (drop 2 nine)
   pub away : path_of (drop 1 migrated) (Some 2) (Whole (at_place 43 0)) 400 ≡ ToOther
-  pub gone_away : list_with small (drop 1 migrated) 2 (migrate_of (drop 1 migrated) 1 1 (Whole (at_place 43 0)) 44 (letters 400 119)) ≡ migrated
+  pub gone_away : list_with small (drop 1 migrated) 2 (migrate_of (drop 1 migrated) 1 1 (Whole (at_place 43 0)) 44 (letters 400 119)) ≡ Some migrated
   pub in_place : path_of (drop 1 updated) (Some 3) moved_row 500 ≡ InPlace
   pub changed_blocks : updated_blocks (drop 1 updated) (Some 3) moved_row 500 ≡ 44 ∷ []
-  pub changed : list_with small (drop 1 updated) 3 (update_of (drop 1 updated) 1 1 moved_row (letters 500 118)) ≡ updated
-  pub deleted : list_with small (drop 4 filled) 4 (delete_of 1 2 (Whole (at_place 43 1))) ≡ drop 3 filled
+  pub changed : list_with small (drop 1 updated) 3 (update_of (drop 1 updated) 1 1 moved_row (letters 500 118)) ≡ Some updated
+  pub deleted : list_with small (drop 4 filled) 4 (delete_of 1 2 (Whole (at_place 43 1))) ≡ Some (drop 3 filled)
   pub back : path_of (drop 2 returned) (Some 5) moved_row 615 ≡ ToHead
   pub back_blocks : updated_blocks (drop 2 returned) (Some 5) moved_row 615 ≡ 44 ∷ 43 ∷ []
-  pub gone_back : list_with small (drop 2 returned) 5 (return_of 1 1 (at_place 43 0) (at_place 44 0) (letters 615 117)) ≡ drop 1 returned
-  pub deleted_after_reuse : list_with small half_deleted 6 (delete_of 1 3 (Whole (at_place 43 2))) ≡ reused
+  pub gone_back : list_with small (drop 2 returned) 5 (return_of 1 1 (at_place 43 0) (at_place 44 0) (letters 615 117)) ≡ Some (drop 1 returned)
+  pub deleted_after_reuse : list_with small half_deleted 6 (delete_of 1 3 (Whole (at_place 43 2))) ≡ Some reused
   pub here : spot_for small reused 2178 ≡ Here (record again_at { nth = 1 })
   pub full : spot_for small reused 2179 ≡ Full ((38, 6) ∷ [])

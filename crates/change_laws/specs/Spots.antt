@@ -41,13 +41,14 @@ spot_by sh R need (Some u) = cond (ltb BLOCK_ROOM (undo_used R u + need)) (spot_
 abbrev pub spot_for : Shape → List Record → ℕ → Spot
 spot_for sh R need = spot_by sh R need (current_undo R)
 
--- the list with the record of a change by t, and a Reuse before it where its undo asks for one
-abbrev pub list_at : List Record → ℕ → Change → Spot → List Record
-list_at R t c (Here a) = record_of R t a c ∷ R
-list_at R t c (Next q) = record_of (Reuse q ∷ R) t (undo_start q) c ∷ Reuse q ∷ R
-list_at R t c (Full hs) = R
+-- the list with the record of a change by t, and a Reuse before it where its undo asks for one; none where undo is full, so
+-- that no list is the one with a change that can't be made
+abbrev pub list_at : List Record → ℕ → Change → Spot → Option (List Record)
+list_at R t c (Here a) = Some (record_of R t a c ∷ R)
+list_at R t c (Next q) = Some (record_of (Reuse q ∷ R) t (undo_start q) c ∷ Reuse q ∷ R)
+list_at R t c (Full hs) = None
 
-abbrev pub list_with : Shape → List Record → ℕ → Change → List Record
+abbrev pub list_with : Shape → List Record → ℕ → Change → Option (List Record)
 list_with sh R t c = list_at R t c (spot_for sh R (change_size R c))
 
 -- Undo is full for so many bytes: there is a current block, in which they don't fit, and each other block of the ring has a

@@ -233,7 +233,7 @@ writer_told sh R b k u m ms (At c) h l by on e =
     zero_active z = let l = begun_from_one sh R u h ((txn_table sh R h).begun u on) in omega (arith, l, z)
 
 busy_now : (sh : Shape) (R : List Record) (own : Option ℕ) (o n : ℕ) (p : Rowid) (undo : UndoAddr) (start : ℕ) (ms : List Made) → makers R p.dba p.slot ≡ ms → AreAllowed sh R → IsOwn R own → Still sh R own o n p undo start
-    → (first_counted (λ w a. counts R (commit_count R) (number_or_zero own) w) (image R p.dba p.slot) ms).undo ≡ Some undo → (image R p.dba p.slot).undo ≢ Some undo → changed_above R start n ≡ false → IsBusyNow R own n p start
+    → (first_counted (λ w a. counts R (commit_count R) (number_or_zero own) w) (image R p.dba p.slot) ms).undo ≡ Some undo → (image R p.dba p.slot).undo ≢ Some undo → changed_above R start n ≡ false → IsBusyNow R own o n p start
 busy_now sh R own o n p undo start [] q h on x e g c = absurd (g e)
 busy_now sh R own o n p undo start (m ∷ ms) q h on x e g c = elim (cases_Bool (counts R (commit_count R) (number_or_zero own) m.by)) [
   | inl y ↦ absurd (g (ap (λ (i : Slot). i.undo) (sym (cond-true _ (image R p.dba p.slot) (first_counted (λ w a. counts R (commit_count R) (number_or_zero own) w) m.old ms) y)) ∙ e))
@@ -241,6 +241,8 @@ busy_now sh R own o n p undo start (m ∷ ms) q h on x e g c = elim (cases_Bool 
       let held = others_hold sh R p.dba p.slot (commit_count R) (number_or_zero own) n x.bytes m ms h (le_refl (commit_count R)) (open_of R own on) (x.row c) q off in
       record {
         unchanged = c;
+        was = x.bytes;
+        there = (rows_are_spread sh R o (commit_count R) (number_or_zero own) h x.table (le_refl (commit_count R)) (open_of R own on)).viewed p.dba p.slot n x.bytes x.here (x.row c);
         txn = held.txn;
         writer = writer_told sh R p.dba p.slot held.txn held.made held.rest (image R p.dba p.slot).writer h held.list held.by_is held.active refl;
         busy = record { step = held.step; newest = held.newest; by_is = held.step_by; active = held.active; other = held.other };

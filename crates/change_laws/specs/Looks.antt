@@ -4,7 +4,7 @@
 use Rattle.std.specs.Prelude.{◌≡◌, ◌≢◌, ℕ, true, false, List, Option, Some, None}
 use Rattle.seg_words.specs.Types.{Shape, Kind, Empty, Row, Head, Body, Rowid, UndoAddr, Slot, By}
 use Rattle.redo_model.specs.Records.{Record}
-use Rattle.redo_model.specs.Model.{commit_count, image, image_at, row_at, Extent, extents_of, extent_at, in_extent, IsTable, IsRowBlock, number_or_zero, AreAllowed}
+use Rattle.redo_model.specs.Model.{commit_count, image, image_at, row_at, Extent, extents_of, extent_at, in_extent, IsTable, IsRowBlock, view, number_or_zero, AreAllowed}
 use Rattle.redo_laws.specs.Stays.{Later, IsNotOf}
 use Rattle.redo_laws.specs.Views.{IsOpen}
 use Rattle.scan_laws.specs.Changes.{changed_above}
@@ -39,7 +39,8 @@ pub record IsBornAt (sh : Shape) (R : List Record) (o b born : ℕ) : Type 0 whe
   pub born_is : extent.incarnation ≡ born
 
 -- Row n was found at p in a row block of table o for own, in this list or in an earlier one after which own added nothing:
--- the incarnation of the block's extent, the undo address of the image and the number of commits then.
+-- the incarnation of the block's extent, the undo address of the image and the number of commits then. Where own has not begun
+-- it stays so from then to the change: the place is looked at before the Begin.
 pub record WasFound (sh : Shape) (R : List Record) (own : Option ℕ) (o n : ℕ) (p : Rowid) (born : ℕ) (undo : UndoAddr) (start : ℕ) : Type 0 where
   pub list : List Record
   pub later : Later (λ e. IsNotOf e (number_or_zero own)) list R
@@ -57,9 +58,12 @@ pub record IsFreeNow (R : List Record) (own : Option ℕ) (o n : ℕ) (p : Rowid
   pub unchanged : changed_above R start n ≡ false
   pub write : MayWrite R own o n (stand_in (image R p.dba p.slot) p)
 
--- nothing changed it since, and the writer of the newest image there is another active transaction, which keeps it busy
-pub record IsBusyNow (R : List Record) (own : Option ℕ) (n : ℕ) (p : Rowid) (start : ℕ) : Type 0 where
+-- the row is in the view at all commits, nothing changed it since, and the writer of the newest image there is another active
+-- transaction, which keeps it busy
+pub record IsBusyNow (R : List Record) (own : Option ℕ) (o n : ℕ) (p : Rowid) (start : ℕ) : Type 0 where
   pub unchanged : changed_above R start n ≡ false
+  pub was : List ℕ
+  pub there : view R o (commit_count R) (number_or_zero own) n ≡ Some was
   pub txn : ℕ
   pub writer : (image R p.dba p.slot).writer ≡ By txn
   pub busy : IsBusy R own n txn
@@ -70,7 +74,7 @@ pub record PlaceShows (sh : Shape) (R : List Record) (own : Option ℕ) (o n : �
   pub here : IsRowBlock sh R o p.dba
   pub changed : (now_at R own p).undo ≢ Some undo → IsChanged R start n (commit_count R)
   pub free : (now_at R own p).undo ≡ Some undo → (image R p.dba p.slot).undo ≡ Some undo → IsFreeNow R own o n p start
-  pub busy : (now_at R own p).undo ≡ Some undo → (image R p.dba p.slot).undo ≢ Some undo → IsBusyNow R own n p start
+  pub busy : (now_at R own p).undo ≡ Some undo → (image R p.dba p.slot).undo ≢ Some undo → IsBusyNow R own o n p start
 
 abbrev pub PlacesShow : Type 0
 PlacesShow =

@@ -7,3 +7,4 @@ pub mod FindLaw
 pub mod ShowLaw
 pub mod Computing
 pub mod BodyLaw
+pub mod AnswerLaw

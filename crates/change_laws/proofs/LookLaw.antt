@@ -1,5 +1,5 @@
 -- What a place tells when it is looked at later.
-use Rattle.std.proofs.Common.{◌≡◌, ◌≢◌, ℕ, ◌≤◌, ◌<◌, Bool, true, false, cond, ◌||◌, ◌&&◌, eqb, leb, List, [], ◌∷◌, length, Contains, MatchOption, Option, Some, None, refl, sym, ◌∙◌, ap, subst, arith, inl, inr, le_refl, le_trans, true≢false, eqb-true, le-leb}
+use Rattle.std.proofs.Common.{◌≡◌, ◌≢◌, ◌⊎◌, ℕ, ◌≤◌, ◌<◌, Bool, true, false, cond, ◌||◌, ◌&&◌, eqb, leb, List, [], ◌∷◌, length, Contains, MatchOption, Option, Some, None, refl, sym, ◌∙◌, ap, subst, arith, inl, inr, le_refl, le_trans, true≢false, eqb-true, le-leb}
 use Rattle.seg_words.proofs.Lemmas.{cases_Bool, cond-true, cond-false, or_cases, or_right}
 use Rattle.seg_words.specs.Types.{Shape, Kind, Empty, Row, Head, Body, Rowid, Slot, UndoAddr, Writer, By, At}
 use Rattle.redo_model.specs.Records.{Record, Lower}
@@ -249,6 +249,19 @@ busy_now sh R own o n p undo start (m ∷ ms) q h on x e g c = elim (cases_Bool 
       }
 ]
 
+-- an unchanged row is free or busy
+
+free_or_busy : (sh : Shape) (R : List Record) (own : Option ℕ) (o n : ℕ) (p : Rowid) (undo : UndoAddr) (start : ℕ) (ms : List Made) → makers R p.dba p.slot ≡ ms → AreAllowed sh R → IsOwn R own → Still sh R own o n p undo start → (now_at R own p).undo ≡ Some undo
+    → (first_counted (λ w a. counts R (commit_count R) (number_or_zero own) w) (image R p.dba p.slot) ms).undo ≡ Some undo → changed_above R start n ≡ false → IsFreeNow R own o n p start ⊎ IsBusyNow R own o n p start
+free_or_busy sh R own o n p undo start [] q h on x e f c = inl (free_now sh R own o n p undo start h on x e f)
+free_or_busy sh R own o n p undo start (m ∷ ms) q h on x e f c =
+    let chain = subst (IsChain (image R p.dba p.slot)) q (slots_are_chains sh R p.dba p.slot h).chain in
+    let falls = subst Falls q (makers_fall sh R p.dba p.slot h) in
+    elim (cases_Bool (counts R (commit_count R) (number_or_zero own) m.by)) [
+      | inl y ↦ inl (free_now sh R own o n p undo start h on x e (ap (λ (i : Slot). i.undo) (sym (cond-true _ (image R p.dba p.slot) (first_counted (λ w a. counts R (commit_count R) (number_or_zero own) w) m.old ms) y)) ∙ f))
+      | inr off ↦ inr (busy_now sh R own o n p undo start (m ∷ ms) q h on x f (λ g. absurd (true≢false (sym (head_counts (λ w a. counts R (commit_count R) (number_or_zero own) w) (image R p.dba p.slot) m ms undo chain falls f g) ∙ off))) c)
+    ]
+
 -- a block that the table still has was not released
 
 not_released : (sh : Shape) (R : List Record) (own : Option ℕ) (o n : ℕ) (p : Rowid) (born : ℕ) (undo : UndoAddr) (start : ℕ) → AreAllowed sh R → (f : WasFound sh R own o n p born undo start) → IsBornAt sh R o p.dba born → is_released_since sh (length f.list) R o p.dba ≡ false
@@ -313,6 +326,12 @@ early_allowed : (sh : Shape) (P : Effect → Type 0) (Q R : List Record) → Lat
 early_allowed sh P Q R not_later h = h
 early_allowed sh P Q R (one_later {R = S} r l p) h = early_allowed sh P Q S l h.0
 
+since_changed : (sh : Shape) (R : List Record) (own : Option ℕ) (o n : ℕ) (p : Rowid) (born : ℕ) (undo : UndoAddr) (start : ℕ) → AreAllowed sh R → IsOwn R own → (f : WasFound sh R own o n p born undo start) → is_released_since sh (length f.list) R o p.dba ≡ true
+    → changed_above R start n ≡ true
+since_changed sh R own o n p born undo start h on f since =
+    ap (λ c. changed_above R c n) f.start_is
+        ∙ gone sh f.list (number_or_zero own) o p.dba p.slot n f.bytes R (early_allowed sh (λ e. IsNotOf e (number_or_zero own)) f.list R f.later h) h f.open_then (open_of R own on) f.table f.here f.row f.later since
+
 pub released_are_changed : ReleasedAreChanged
 released_are_changed sh R own o n p born undo start h on f none =
     let x = later_extends (λ e. IsNotOf e (number_or_zero own)) f.list R f.later in
@@ -323,8 +342,12 @@ released_are_changed sh R own o n p born undo start h on f none =
           let b = f.born_then in
           absurd (none (record { index = b.index; extent = b.extent; at = s.same_extent b.index b.extent b.at b.has; has = b.has; born_is = b.born_is }))
     ] in
-    record {
-      changed = ap (λ c. changed_above R c n) f.start_is
-          ∙ gone sh f.list (number_or_zero own) o p.dba p.slot n f.bytes R (early_allowed sh (λ e. IsNotOf e (number_or_zero own)) f.list R f.later h) h f.open_then (open_of R own on) f.table f.here f.row f.later since;
-      now = refl;
-    }
+    record { changed = since_changed sh R own o n p born undo start h on f since; now = refl }
+
+-- a row that was found is free or busy where nothing changed it since, whether or not its block was released
+pub unchanged_shown : (sh : Shape) (R : List Record) (own : Option ℕ) (o n : ℕ) (p : Rowid) (born : ℕ) (undo : UndoAddr) (start : ℕ) → AreAllowed sh R → IsOwn R own → WasFound sh R own o n p born undo start → changed_above R start n ≡ false
+    → IsFreeNow R own o n p start ⊎ IsBusyNow R own o n p start
+unchanged_shown sh R own o n p born undo start h on f c = elim (cases_Bool (is_released_since sh (length f.list) R o p.dba)) [
+  | inl y ↦ absurd (true≢false (sym (since_changed sh R own o n p born undo start h on f y) ∙ c))
+  | inr z ↦ let x = still sh R own o n p born undo start h on f z in let e = x.same_undo c in free_or_busy sh R own o n p undo start (makers R p.dba p.slot) refl h on x e e c
+]

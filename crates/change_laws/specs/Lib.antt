@@ -5,6 +5,7 @@ pub mod Allowed
 pub mod Begun
 pub mod Causes
 pub mod Looks
+pub mod Answers
 pub mod Finds
 pub mod Shows
 pub mod Examples

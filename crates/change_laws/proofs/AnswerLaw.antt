@@ -1,16 +1,16 @@
 -- What the answers of an update and of a delete mean, and what of a place tells them.
-use Rattle.std.proofs.Common.{◌≡◌, ◌≢◌, ◌⊎◌, ℕ, suc, Bool, true, false, cond, not, ◌&&◌, eqb, List, [], ◌∷◌, length, MatchOption, Option, Some, None, refl, sym, ◌∙◌, ap, ap₂, subst, inl, inr, true≢false, ne_eqb}
+use Rattle.std.proofs.Common.{◌≡◌, ◌≢◌, ◌⊎◌, ℕ, true, false, cond, not, ◌&&◌, eqb, List, [], ◌∷◌, length, MatchOption, Option, Some, None, refl, sym, ◌∙◌, ap, ap₂, subst, inl, inr, ne_eqb}
 use Rattle.seg_words.proofs.Lemmas.{cases_Bool, cond-true, cond-false, and_from, and_parts, eqb-false, not-true}
-use Rattle.seg_words.specs.Types.{Shape, Rowid, UndoAddr, Writer, By, At}
+use Rattle.seg_words.specs.Types.{Shape, Rowid, Writer, By, At}
 use Rattle.redo_model.specs.Records.{Record}
-use Rattle.redo_model.specs.Model.{Step, commit_count, is_active, standing, newest_on, image, IsFreeFor, number_or_zero, AreAllowed}
+use Rattle.redo_model.specs.Model.{Step, is_active, standing, newest_on, IsFreeFor, number_or_zero, AreAllowed}
 use Rattle.scan_laws.specs.Changes.{changed_above}
-use Rattle.change_laws.specs.Drafts.{Change, change_size, Stand, Whole, Apart, holder_of}
+use Rattle.change_laws.specs.Drafts.{Change, change_size, Stand, Whole, Apart}
 use Rattle.change_laws.specs.Spots.{Spot, Here, Next, Full, spot_for}
-use Rattle.change_laws.specs.Ready.{IsOwn, lacks_entry, first_lacking, Path, InPlace, ToHead, ToOther, fits_at, path_of}
+use Rattle.change_laws.specs.Ready.{lacks_entry, first_lacking, Path, InPlace, ToHead, ToOther, fits_at, path_of}
 use Rattle.change_laws.specs.Causes.{IsBusy}
-use Rattle.change_laws.specs.Looks.{now_at, IsBornAt, WasFound, IsFreeNow, IsBusyNow}
-use Rattle.change_laws.specs.Answers.{RowChanged, RowBusy, keeper_of, keeper_in, keeper, change_by, by_spot, by_change, by_lack, by_keeper, answer_of, IsPast, Means, AnswersMean, NeedMeans, BlocksAreNeeded, PlacesAnswer}
+use Rattle.change_laws.specs.Looks.{IsFreeNow, IsBusyNow}
+use Rattle.change_laws.specs.Answers.{keeper_of, keeper_in, keeper, change_by, by_spot, by_change, by_lack, by_keeper, IsPast, Means, AnswersMean, BlocksAreNeeded, PlacesAnswer}
 use Rattle.change_laws.proofs.SpotLaw.{full_is_told}
 use Rattle.change_laws.proofs.CauseLaw.{lack_is_no_slot}
 use Rattle.change_laws.proofs.LookLaw.{places_show, released_are_changed, unchanged_shown}

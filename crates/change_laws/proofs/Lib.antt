@@ -8,3 +8,4 @@ pub mod ShowLaw
 pub mod Computing
 pub mod BodyLaw
 pub mod AnswerLaw
+pub mod MadeLaw

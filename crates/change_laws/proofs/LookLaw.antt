@@ -330,7 +330,7 @@ since_changed : (sh : Shape) (R : List Record) (own : Option ℕ) (o n : ℕ) (p
     → changed_above R start n ≡ true
 since_changed sh R own o n p born undo start h on f since =
     ap (λ c. changed_above R c n) f.start_is
-        ∙ gone sh f.list (number_or_zero own) o p.dba p.slot n f.bytes R (early_allowed sh (λ e. IsNotOf e (number_or_zero own)) f.list R f.later h) h f.open_then (open_of R own on) f.table f.here f.row f.later since
+    ∙ gone sh f.list (number_or_zero own) o p.dba p.slot n f.bytes R (early_allowed sh (λ e. IsNotOf e (number_or_zero own)) f.list R f.later h) h f.open_then (open_of R own on) f.table f.here f.row f.later since
 
 pub released_are_changed : ReleasedAreChanged
 released_are_changed sh R own o n p born undo start h on f none =

@@ -2,13 +2,13 @@
 -- changed, it is busy, a block that must be changed has no list entry, another block is needed, undo is full. A row is updated
 -- in place where it fits, else goes back to its head where it fits there, else to another block, whole (Oracle Database
 -- Concepts, "Chained and Migrated Rows"); the order of the causes is this engine's own.
-use Rattle.std.specs.Prelude.{◌≡◌, ◌≢◌, ℕ, suc, true, false, cond, not, ◌&&◌, eqb, List, ◌∷◌, length, Option, Some, None}
+use Rattle.std.specs.Prelude.{◌≡◌, ◌≢◌, ℕ, false, cond, not, ◌&&◌, eqb, List, ◌∷◌, length, Option, Some, None}
 use Rattle.seg_words.specs.Types.{Shape, Rowid, UndoAddr, Writer, By, At}
 use Rattle.redo_model.specs.Records.{Record, Begin, BeginRecord}
-use Rattle.redo_model.specs.Model.{Step, txn_count, commit_count, is_active, standing, newest_on, view, image, Takes, IsRowBlock, pctfree_of, IsRowSize, number_or_zero, AreAllowed, IsLawful}
+use Rattle.redo_model.specs.Model.{Step, commit_count, is_active, standing, newest_on, view, image, Takes, IsRowBlock, pctfree_of, IsRowSize, number_or_zero, AreAllowed, IsLawful}
 use Rattle.scan_laws.specs.Changes.{changed_above}
 use Rattle.change_laws.specs.Drafts.{Change, taker_of, change_size, update_of, migrate_of, return_of, delete_of, Stand, Whole, Apart}
-use Rattle.change_laws.specs.Spots.{Spot, Here, Next, Full, spot_for, IsFull}
+use Rattle.change_laws.specs.Spots.{Spot, Here, Next, Full, spot_for, list_with, IsFull}
 use Rattle.change_laws.specs.Ready.{IsOwn, IsReady, first_lacking, blocks_at, Path, InPlace, ToHead, ToOther, path_of, updated_blocks, IsOtherThan}
 use Rattle.change_laws.specs.Causes.{IsBusy, IsChanged, txns_of, IsNoSlot}
 use Rattle.change_laws.specs.Looks.{stand_in, now_at, IsBornAt, WasFound, IsFreeNow}
@@ -152,3 +152,37 @@ abbrev pub PlacesAnswer : Type 0
 PlacesAnswer =
     (sh : Shape) (R : List Record) (own : Option ℕ) (o n : ℕ) (p : Rowid) (born : ℕ) (undo : UndoAddr) (start : ℕ) (bs : List ℕ) (len : ℕ) (change : Option Change) → AreAllowed sh R → IsOwn R own → WasFound sh R own o n p born undo start
     → PlaceAnswers sh R own o n p born undo start bs len change
+
+-- What follows where a change is made.
+
+-- the block that is given for a migration is a row block of the table that takes the row, and none of the row's own
+pub record IsTarget (sh : Shape) (R : List Record) (own : Option ℕ) (o : ℕ) (x : Stand) (len b : ℕ) : Type 0 where
+  pub here : IsRowBlock sh R o b
+  pub takes : Takes R (pctfree_of R o) b len (taker_of own)
+  pub other : IsOtherThan x b
+
+abbrev pub MayBeTarget : Shape → List Record → Option ℕ → ℕ → Stand → ℕ → Option ℕ → Type 0
+MayBeTarget sh R own o x len None = Unit {0}
+MayBeTarget sh R own o x len (Some b) = IsTarget sh R own o x len b
+
+-- t may make the change, and the list with it is lawful
+pub record MadeBy (sh : Shape) (R : List Record) (t : ℕ) (c : Change) : Type 0 where
+  pub ready : IsReady sh R t c
+  pub list : List Record
+  pub list_is : list_with sh R t c ≡ Some list
+  pub lawful : IsLawful sh list
+
+-- so may own, or the transaction that begins with it
+abbrev pub MadeFor : Shape → List Record → Option ℕ → Change → Type 0
+MadeFor sh R None c = (g : BeginRecord) → IsLawful sh (Begin g ∷ R) → MadeBy sh (Begin g ∷ R) g.txn c
+MadeFor sh R (Some t) c = MadeBy sh R t c
+
+abbrev pub UpdatesAreMade : Type 0
+UpdatesAreMade =
+    (sh : Shape) (R : List Record) (own : Option ℕ) (o n : ℕ) (p : Rowid) (born : ℕ) (undo : UndoAddr) (start : ℕ) (bytes : List ℕ) (to : Option ℕ) (c : Change) → IsLawful sh R → IsOwn R own → WasFound sh R own o n p born undo start → IsRowSize bytes
+    → MayBeTarget sh R own o (stand_at R p) (length bytes) to → update_answer sh R own o n p start bytes to ≡ Makes c → MadeFor sh R own c
+
+abbrev pub DeletesAreMade : Type 0
+DeletesAreMade =
+    (sh : Shape) (R : List Record) (own : Option ℕ) (o n : ℕ) (p : Rowid) (born : ℕ) (undo : UndoAddr) (start : ℕ) (c : Change) → IsLawful sh R → IsOwn R own → WasFound sh R own o n p born undo start
+    → delete_answer sh R own o n p start ≡ Makes c → MadeFor sh R own c

@@ -1,12 +1,14 @@
 -- The records of the small runs are those that the definitions here draft: a row is inserted with the first use of undo, is
--- migrated, updated at its body, goes back to its head; rows are deleted, the last one after a Reuse; then undo is full.
-use Rattle.std.specs.Prelude.{◌≡◌, [], ◌∷◌, drop, Some}
+-- migrated, updated at its body, goes back to its head; rows are deleted, the last one after a Reuse; then undo is full. And the
+-- answers are the change, a needed block, a changed row and a busy one.
+use Rattle.std.specs.Prelude.{◌≡◌, [], ◌∷◌, drop, Some, None}
 use Rattle.redo_model.specs.Records.{Begin}
 use Rattle.redo_model.specs.Model.{at_place}
 use Rattle.redo_model.specs.Worked.{small, hello, letters, again_at, nine, migrated, updated, filled, returned, half_deleted, reused}
 use Rattle.change_laws.specs.Drafts.{begin_of, insert_of, update_of, migrate_of, return_of, delete_of, Stand, Whole, Apart}
 use Rattle.change_laws.specs.Spots.{Here, Full, spot_for, list_with}
 use Rattle.change_laws.specs.Ready.{InPlace, ToHead, ToOther, path_of, updated_blocks}
+use Rattle.change_laws.specs.Answers.{Makes, RowChanged, RowBusy, BlockNeeded, update_answer, delete_answer}
 
 -- row 1 of the runs, after it was migrated
 abbrev pub moved_row : Stand
@@ -27,3 +29,9 @@ pub record ExamplesRight : Type 0 where
   pub deleted_after_reuse : list_with small half_deleted 6 (delete_of 1 3 (Whole (at_place 43 2))) ≡ Some reused
   pub here : spot_for small reused 2178 ≡ Here (record again_at { nth = 1 })
   pub full : spot_for small reused 2179 ≡ Full ((38, 6) ∷ [])
+  pub makes : update_answer small (drop 1 migrated) (Some 2) 1 1 (at_place 43 0) 1 (letters 400 119) (Some 44) ≡ Makes (migrate_of (drop 1 migrated) 1 1 (Whole (at_place 43 0)) 44 (letters 400 119))
+  pub needs_block : update_answer small (drop 1 migrated) (Some 2) 1 1 (at_place 43 0) 1 (letters 400 119) None ≡ BlockNeeded 400
+  pub row_changed : update_answer small migrated None 1 1 (at_place 43 0) 0 hello None ≡ RowChanged 1
+  pub row_busy : update_answer small migrated None 1 1 (at_place 43 0) 1 hello None ≡ RowBusy 2
+  pub delete_busy : delete_answer small migrated None 1 1 (at_place 43 0) 1 ≡ RowBusy 2
+  pub delete_makes : delete_answer small migrated (Some 2) 1 1 (at_place 44 0) 1 ≡ Makes (delete_of 1 1 moved_row)

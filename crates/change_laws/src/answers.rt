@@ -1,5 +1,5 @@
 // What an update and a delete of a row answer.
-ghost use Rattle.change_laws.specs.Answers.{AnswersMean, BlocksAreNeeded, PlacesAnswer};
+ghost use Rattle.change_laws.specs.Answers.{AnswersMean, BlocksAreNeeded, DeletesAreMade, PlacesAnswer, UpdatesAreMade};
 
 /// Each answer of an update or a delete means its cause, and that none of the causes before it is one: the row has changed, is
 /// busy, a block that must be changed has no list entry for the transaction, another block is needed, undo is full; else the
@@ -16,4 +16,15 @@ pub fn places_answer()
 /// An update needs a block exactly where it goes to another one and none is given.
 pub fn blocks_are_needed()
     ensures { BlocksAreNeeded }
+{}
+
+/// Where the answer of an update is that its change is made, its transaction may make it, also one that begins with it; its undo
+/// has a place, and the list with its record is lawful.
+pub fn updates_are_made()
+    ensures { UpdatesAreMade }
+{}
+
+/// The same of a delete.
+pub fn deletes_are_made()
+    ensures { DeletesAreMade }
 {}

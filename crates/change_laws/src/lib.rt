@@ -14,7 +14,9 @@ pub use allowed::{
     begins_are_lawful, changes_are_lawful, deletes_are_ready, full_is_told, inserts_are_ready,
     migrates_are_ready, returns_are_ready, spots_state, updates_are_ready, updates_go,
 };
-pub use answers::{answers_mean, blocks_are_needed, places_answer};
+pub use answers::{
+    answers_mean, blocks_are_needed, deletes_are_made, places_answer, updates_are_made,
+};
 pub use begins::{begins_keep_mays, begins_leave, begun_changes_are_lawful, reuses_leave};
 pub use causes::{changes_need, lack_is_no_slot, rows_stand_once};
 pub use finds::{

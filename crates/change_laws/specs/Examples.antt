@@ -6,7 +6,7 @@ use Rattle.redo_model.specs.Records.{Begin}
 use Rattle.redo_model.specs.Model.{at_place}
 use Rattle.redo_model.specs.Worked.{small, hello, letters, again_at, nine, migrated, updated, filled, returned, half_deleted, reused}
 use Rattle.change_laws.specs.Drafts.{begin_of, insert_of, update_of, migrate_of, return_of, delete_of, Stand, Whole, Apart}
-use Rattle.change_laws.specs.Spots.{Here, Full, spot_for, list_with}
+use Rattle.change_laws.specs.Spots.{Here, Full, spot_for, list_at, list_with}
 use Rattle.change_laws.specs.Ready.{InPlace, ToHead, ToOther, path_of, updated_blocks}
 use Rattle.change_laws.specs.Answers.{Makes, RowChanged, RowBusy, BlockNeeded, update_answer, delete_answer}
 
@@ -29,6 +29,7 @@ pub record ExamplesRight : Type 0 where
   pub deleted_after_reuse : list_with small half_deleted 6 (delete_of 1 3 (Whole (at_place 43 2))) ≡ Some reused
   pub here : spot_for small reused 2178 ≡ Here (record again_at { nth = 1 })
   pub full : spot_for small reused 2179 ≡ Full ((38, 6) ∷ [])
+  pub no_list : list_at reused 6 (delete_of 1 3 (Whole (at_place 43 2))) (Full ((38, 6) ∷ [])) ≡ None
   pub makes : update_answer small (drop 1 migrated) (Some 2) 1 1 (at_place 43 0) 1 (letters 400 119) (Some 44) ≡ Makes (migrate_of (drop 1 migrated) 1 1 (Whole (at_place 43 0)) 44 (letters 400 119))
   pub needs_block : update_answer small (drop 1 migrated) (Some 2) 1 1 (at_place 43 0) 1 (letters 400 119) None ≡ BlockNeeded 400
   pub row_changed : update_answer small migrated None 1 1 (at_place 43 0) 0 hello None ≡ RowChanged 1

@@ -3,13 +3,13 @@ use Rattle.std.proofs.Common.{◌≡◌, ℕ, List, ◌∷◌, length, Option, S
 use Rattle.seg_words.specs.Types.{Shape}
 use Rattle.redo_model.specs.Records.{Record, Begin, Reuse, BeginRecord}
 use Rattle.redo_model.specs.Model.{IsLawful}
-use Rattle.change_laws.specs.Drafts.{Change, change_size, record_of, update_of, migrate_of, return_of, delete_of, Stand, Whole, Apart}
+use Rattle.change_laws.specs.Drafts.{Change, change_size, record_of, insert_of, update_of, migrate_of, return_of, delete_of, Stand, Whole, Apart}
 use Rattle.change_laws.specs.Spots.{Spot, Here, Next, Full, undo_start, spot_for, list_at}
-use Rattle.change_laws.specs.Ready.{IsReady, blocks_at, Path, InPlace, ToHead, ToOther, path_of, updated_blocks, MayUpdate, MayReturn, MayMigrate, MayDelete, UpdateGoes}
+use Rattle.change_laws.specs.Ready.{IsReady, blocks_at, Path, InPlace, ToHead, ToOther, path_of, updated_blocks, MayInsert, MayUpdate, MayReturn, MayMigrate, MayDelete, UpdateGoes}
 use Rattle.change_laws.specs.Allowed.{LawfulAt}
-use Rattle.change_laws.specs.Answers.{change_to_head, change_by, stand_at, Means, MayBeTarget, MadeBy, MadeFor, UpdatesAreMade, DeletesAreMade}
-use Rattle.change_laws.proofs.ReadyLaw.{updates_are_ready, migrates_are_ready, returns_are_ready, deletes_are_ready, updates_go}
-use Rattle.change_laws.proofs.SpotLaw.{changes_are_lawful}
+use Rattle.change_laws.specs.Answers.{change_to_head, change_by, stand_at, Means, by_spot, MayBeTarget, MadeBy, MadeFor, UpdatesAreMade, DeletesAreMade, InsertMeans, InsertsAreMade}
+use Rattle.change_laws.proofs.ReadyLaw.{inserts_are_ready, updates_are_ready, migrates_are_ready, returns_are_ready, deletes_are_ready, updates_go}
+use Rattle.change_laws.proofs.SpotLaw.{changes_are_lawful, full_is_told}
 use Rattle.change_laws.proofs.BegunLaw.{begins_leave, begins_keep_mays}
 use Rattle.change_laws.proofs.AnswerLaw.{answers_mean}
 
@@ -82,3 +82,18 @@ deletes_are_made sh R own o n p born undo start c l on f e =
     let x = stand_at R p in
     let m = subst (Means sh R own o n p start (blocks_at x) 0 (Some (delete_of o n x))) e (answers_mean sh R own o n p born undo start (blocks_at x) 0 (Some (delete_of o n x)) l.allowed on f) in
     made_for sh R own c l m.not_full (subst (ReadyFor sh R own) (same_change (delete_of o n x) c m.change_is) (delete_ready sh R own o n x l (record { write = m.past.free.write; entries = m.past.entries })))
+
+-- an insert
+
+insert_ready : (sh : Shape) (R : List Record) (own : Option ℕ) (o b : ℕ) (bytes : List ℕ) → IsLawful sh R → MayInsert sh R own o b bytes → ReadyFor sh R own (insert_of R o b bytes)
+insert_ready sh R None o b bytes l m = λ g k.
+    subst (IsReady sh (Begin g ∷ R) g.txn) ((begins_leave sh R g l.allowed k.allowed.1.kind.number).insert o b bytes) (inserts_are_ready sh (Begin g ∷ R) g.txn o b bytes k ((begins_keep_mays sh R g l.allowed k.allowed.1.kind.number).insert o b bytes m))
+insert_ready sh R (Some t) o b bytes l m = inserts_are_ready sh R t o b bytes l m
+
+insert_at : (sh : Shape) (R : List Record) (own : Option ℕ) (c : Change) (s : Spot) → spot_for sh R (change_size R c) ≡ s → IsLawful sh R → ReadyFor sh R own c → InsertMeans sh R own c (by_spot c s)
+insert_at sh R own c (Here a) q l r = (refl, made_for sh R own c l (λ hs e. let z : Here a ≡ Full hs = sym q ∙ e in cc) r)
+insert_at sh R own c (Next u) q l r = (refl, made_for sh R own c l (λ hs e. let z : Next u ≡ Full hs = sym q ∙ e in cc) r)
+insert_at sh R own c (Full hs) q l r = full_is_told sh R (change_size R c) hs q
+
+pub inserts_are_made : InsertsAreMade
+inserts_are_made sh R own o b bytes l m = let c = insert_of R o b bytes in insert_at sh R own c (spot_for sh R (change_size R c)) refl l (insert_ready sh R own o b bytes l m)

@@ -7,9 +7,9 @@ use Rattle.seg_words.specs.Types.{Shape, Rowid, UndoAddr, Writer, By, At}
 use Rattle.redo_model.specs.Records.{Record, Begin, BeginRecord}
 use Rattle.redo_model.specs.Model.{Step, commit_count, is_active, standing, newest_on, view, image, Takes, IsRowBlock, pctfree_of, IsRowSize, number_or_zero, AreAllowed, IsLawful}
 use Rattle.scan_laws.specs.Changes.{changed_above}
-use Rattle.change_laws.specs.Drafts.{Change, taker_of, change_size, update_of, migrate_of, return_of, delete_of, Stand, Whole, Apart}
+use Rattle.change_laws.specs.Drafts.{Change, taker_of, change_size, insert_of, update_of, migrate_of, return_of, delete_of, Stand, Whole, Apart}
 use Rattle.change_laws.specs.Spots.{Spot, Here, Next, Full, spot_for, list_with, IsFull}
-use Rattle.change_laws.specs.Ready.{IsOwn, IsReady, first_lacking, blocks_at, Path, InPlace, ToHead, ToOther, path_of, updated_blocks, IsOtherThan}
+use Rattle.change_laws.specs.Ready.{IsOwn, IsReady, first_lacking, blocks_at, Path, InPlace, ToHead, ToOther, path_of, updated_blocks, MayInsert, IsOtherThan}
 use Rattle.change_laws.specs.Causes.{IsBusy, IsChanged, txns_of, IsNoSlot}
 use Rattle.change_laws.specs.Looks.{stand_in, now_at, IsBornAt, WasFound, IsFreeNow}
 
@@ -82,6 +82,10 @@ update_answer sh R own o n p start bytes to =
 -- of a delete
 abbrev pub delete_answer : Shape → List Record → Option ℕ → ℕ → ℕ → Rowid → ℕ → Answer
 delete_answer sh R own o n p start = answer_of sh R own n start (blocks_at (stand_at R p)) 0 (Some (delete_of o n (stand_at R p)))
+
+-- of an insert into block b: no cause but full undo
+abbrev pub insert_answer : Shape → List Record → ℕ → ℕ → List ℕ → Answer
+insert_answer sh R o b bytes = by_change sh R 0 (Some (insert_of R o b bytes))
 
 -- What each answer means.
 
@@ -186,3 +190,15 @@ abbrev pub DeletesAreMade : Type 0
 DeletesAreMade =
     (sh : Shape) (R : List Record) (own : Option ℕ) (o n : ℕ) (p : Rowid) (born : ℕ) (undo : UndoAddr) (start : ℕ) (c : Change) → IsLawful sh R → IsOwn R own → WasFound sh R own o n p born undo start
     → delete_answer sh R own o n p start ≡ Makes c → MadeFor sh R own c
+
+-- so an insert that may be made is made, or undo is full for it
+abbrev pub InsertMeans : Shape → List Record → Option ℕ → Change → Answer → Type 0
+InsertMeans sh R own c (Makes made) = (made ≡ c) × MadeFor sh R own c
+InsertMeans sh R own c (UndoSpent hs) = IsFull sh R (change_size R c) hs
+InsertMeans sh R own c (RowChanged s) = ⊥
+InsertMeans sh R own c (RowBusy u) = ⊥
+InsertMeans sh R own c (EntriesTaken ts) = ⊥
+InsertMeans sh R own c (BlockNeeded l) = ⊥
+
+abbrev pub InsertsAreMade : Type 0
+InsertsAreMade = (sh : Shape) (R : List Record) (own : Option ℕ) (o b : ℕ) (bytes : List ℕ) → IsLawful sh R → MayInsert sh R own o b bytes → InsertMeans sh R own (insert_of R o b bytes) (insert_answer sh R o b bytes)

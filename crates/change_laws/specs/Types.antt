@@ -6,6 +6,6 @@ pub use Rattle.change_laws.specs.Allowed.{BeginsAreLawful, InsertsAreReady, Upda
 pub use Rattle.change_laws.specs.Begun.{BlockBegun, ListBegun, BeginsLeave, MaysBegun, BeginsKeepMays, ReuseLeaves, ReusesLeave, BegunChangesAreLawful}
 pub use Rattle.change_laws.specs.Causes.{IsBusy, IsChanged, AreOthers, txns_of, IsNoSlot, LackMeans, LackIsNoSlot, IsOld, GoesBy, must_change, ChangeNeeds, ChangesNeed, RowsStandOnce}
 pub use Rattle.change_laws.specs.Looks.{stand_of, stand_in, now_at, row_now, IsBornAt, WasFound, IsFreeNow, IsBusyNow, PlaceShows, PlacesShow, ReleasedAreChanged, UndoOfRow, RowsHaveUndo, HeadOf, BodiesNameHeads}
-pub use Rattle.change_laws.specs.Answers.{Answer, Makes, RowChanged, RowBusy, EntriesTaken, BlockNeeded, UndoSpent, keeper_of, keeper_in, keeper, change_to_head, change_to_block, change_by, by_spot, by_change, by_lack, by_keeper, answer_of, stand_at, update_answer, delete_answer, MeansBusy, MeansTaken, IsPast, MeansNeeded, MeansSpent, MeansMade, Means, AnswersMean, NeedMeans, BlocksAreNeeded, PlaceAnswers, PlacesAnswer, IsTarget, MayBeTarget, MadeBy, MadeFor, UpdatesAreMade, DeletesAreMade}
+pub use Rattle.change_laws.specs.Answers.{Answer, Makes, RowChanged, RowBusy, EntriesTaken, BlockNeeded, UndoSpent, keeper_of, keeper_in, keeper, change_to_head, change_to_block, change_by, by_spot, by_change, by_lack, by_keeper, answer_of, stand_at, update_answer, delete_answer, insert_answer, MeansBusy, MeansTaken, IsPast, MeansNeeded, MeansSpent, MeansMade, Means, AnswersMean, NeedMeans, BlocksAreNeeded, PlaceAnswers, PlacesAnswer, IsTarget, MayBeTarget, MadeBy, MadeFor, UpdatesAreMade, DeletesAreMade, InsertMeans, InsertsAreMade}
 pub use Rattle.change_laws.specs.Finds.{BornOf, RowBlocksAreBorn, FoundOnce, RowsAreFoundOnce, HeadsAreAtHome, FoundPlacesStay}
 pub use Rattle.change_laws.specs.Shows.{UndoShows, UndoPagesShow, RowsShow, RowPagesShow}

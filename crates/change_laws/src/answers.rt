@@ -1,5 +1,5 @@
-// What an update and a delete of a row answer.
-ghost use Rattle.change_laws.specs.Answers.{AnswersMean, BlocksAreNeeded, DeletesAreMade, PlacesAnswer, UpdatesAreMade};
+// What an insert, an update and a delete of a row answer.
+ghost use Rattle.change_laws.specs.Answers.{AnswersMean, BlocksAreNeeded, DeletesAreMade, InsertsAreMade, PlacesAnswer, UpdatesAreMade};
 
 /// Each answer of an update or a delete means its cause, and that none of the causes before it is one: the row has changed, is
 /// busy, a block that must be changed has no list entry for the transaction, another block is needed, undo is full; else the
@@ -27,4 +27,9 @@ pub fn updates_are_made()
 /// The same of a delete.
 pub fn deletes_are_made()
     ensures { DeletesAreMade }
+{}
+
+/// An insert that may be made is made, with a lawful list, or undo is full for it.
+pub fn inserts_are_made()
+    ensures { InsertsAreMade }
 {}

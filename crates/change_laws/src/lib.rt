@@ -15,7 +15,8 @@ pub use allowed::{
     migrates_are_ready, returns_are_ready, spots_state, updates_are_ready, updates_go,
 };
 pub use answers::{
-    answers_mean, blocks_are_needed, deletes_are_made, places_answer, updates_are_made,
+    answers_mean, blocks_are_needed, deletes_are_made, inserts_are_made, places_answer,
+    updates_are_made,
 };
 pub use begins::{begins_keep_mays, begins_leave, begun_changes_are_lawful, reuses_leave};
 pub use causes::{changes_need, lack_is_no_slot, rows_stand_once};

@@ -1,0 +1,4 @@
+pub mod Ending
+pub mod Backing
+pub mod Beginning
+pub mod Types

@@ -5,3 +5,4 @@ pub mod LogRead
 pub mod Prepared
 pub mod Surviving
 pub mod Taking
+pub mod KeptBad

@@ -1,3 +1,4 @@
 pub mod Store
 pub mod Survives
 pub mod Causes
+pub mod Refused

@@ -11,6 +11,7 @@ mod flushing;
 mod mark;
 mod opening;
 mod pages;
+mod refusing;
 mod store;
 
 pub use fault::{StoreFault, StoreOpen};

@@ -1,5 +1,5 @@
 -- What is read of the log of a store.
-use Rattle.std.proofs.Common.{◌≡◌, true, false, ℕ, ◌+◌, List, [], ◌∷◌, ◌++◌, length, reverse, refl, sym, ap, subst, ◌∙◌}
+use Rattle.std.proofs.Common.{◌≡◌, true, false, ℕ, ◌+◌, List, [], ◌∷◌, ◌++◌, length, reverse, refl, sym, ap, subst, ◌∙◌, inl, inr}
 use Rattle.std.specs.Prelude.{None, Result, Ok, Err}
 use Rattle.std.specs.Global.{Vec}
 use Rattle.seg_words.specs.Types.{Shape, is_shape}
@@ -11,7 +11,7 @@ use Rattle.log_frame.specs.declared.fault.FrameFault.{FrameFault}
 use Rattle.log_frame.specs.declared.fault.FrameFault.TheVariants as frames
 use Rattle.log_frame.proofs.Laws.{formatted, walks_from, walks_once}
 use Rattle.redo_model.specs.Records.{Record}
-use Rattle.redo_log.specs.Kept.{Holds}
+use Rattle.redo_log.specs.Kept.{Kept, Holds}
 use Rattle.redo_log.specs.Groups.{Between}
 use Rattle.redo_log.specs.Found.{IsReadFrom, IsOpening, AreAll, Stops, AnswersInMemory}
 use Rattle.redo_log.specs.declared.fault.LogFault.{LogFault}
@@ -23,7 +23,13 @@ use Rattle.page_map.specs.Fitting.{FitsAll, AreAllFit, WhyNotFolded}
 use Rattle.page_map.specs.declared.fault.PageFault.{PageFault}
 use Rattle.page_map.specs.declared.fault.PageFault.TheVariants as pages
 use Rattle.store_laws.proofs.PuttingLaw.{lawful_lists_fit}
+use Rattle.redo_model.specs.Model.{commit_count}
+use Rattle.redo_log.specs.Found.{IsFound, WalkEnds}
+use Rattle.page_map.specs.Pages.{HasPages}
 use Rattle.store_core.specs.Causes.{IsSoundFrame, IsSoundLog}
+use Rattle.store_core.specs.Store.{Read}
+use Rattle.store_core.specs.Preparing.{HeadSays, HeadBreaks, GroupBreaks, PageBreaks, IsRefused, IsReadOf, head_refusal, log_refusal, pages_refusal}
+use Rattle.store_core.specs.declared.fault.StoreOpen.{StoreOpen}
 
 ends_walk : (file : List ℕ) (from at : ℕ) (groups : List (List ℕ)) → Between file from groups at → size_found file at ≡ Ok None → Walks file from groups (Ok at)
 ends_walk file from at [] between shut = (ap (size_found file) (sym between) ∙ shut, between)
@@ -84,3 +90,62 @@ never_stops sh R pages.NoMemory fit why = refl
 
 pub lawful_folds : (sh : Shape) (R : List Record) (e : PageFault) → is_shape sh ≡ true → IsLawful sh R → WhyNotFolded sh R e → e ≡ pages.NoMemory
 lawful_folds sh R e within lawful why = never_stops sh R e (lawful_lists_fit sh R within lawful) why
+
+-- why no store is made of a log file
+pub head_refused : (file : List ℕ) (f : FrameFault) (e : StoreOpen) → e ≡ head_refusal f → IsHeadFound file (Err f) → IsRefused file e
+head_refused file f e same is = subst (IsRefused file) (sym same) (cause f is)
+  where
+    cause : (f : FrameFault) → IsHeadFound file (Err f) → IsRefused file (head_refusal f)
+    cause frames.DeviceFault is = tt
+    cause frames.NotOpen is = is
+    cause (frames.BadFrame offset seen) is = inl (record { formatted = is.0; found = is.1 })
+    cause frames.NoMemory is = tt
+
+pub log_refused : (file bytes : List ℕ) (sh : Shape) (f : LogFault) (e : StoreOpen) → e ≡ log_refusal f → bytes ≡ file → HeadSays file sh → IsOpening bytes 63 [] (Err f) → IsRefused file e
+log_refused file bytes sh f e same here head is = subst (IsRefused file) (sym same) (cause f (subst (λ (b : List ℕ). IsOpening b 63 [] (Err f)) here is))
+  where
+    cause : (f : LogFault) → IsOpening file 63 [] (Err f) → IsRefused file (log_refusal f)
+    cause logs.DeviceFault is = tt
+    cause logs.NotOpen is = is
+    cause (logs.BadLog offset seen) is = inr (record { shape = sh; head = head; breaks = is.1 })
+    cause logs.NoMemory is = tt
+
+pub read_refused : (file bytes : List ℕ) (sh : Shape) (f : LogFault) (e : StoreOpen) → e ≡ log_refusal f → bytes ≡ file → HeadSays file sh → IsReadFrom bytes 63 (Err f) → IsRefused file e
+read_refused file bytes sh f e same here head is = subst (IsRefused file) (sym same) (cause f (subst (λ (b : List ℕ). IsReadFrom b 63 (Err f)) here is))
+  where
+    cause : (f : LogFault) → IsReadFrom file 63 (Err f) → IsRefused file (log_refusal f)
+    cause logs.DeviceFault is = tt
+    cause logs.NotOpen is = absurd is
+    cause (logs.BadLog offset seen) is = inr (record { shape = sh; head = head; breaks = is })
+    cause logs.NoMemory is = tt
+
+pub pages_refused : (file : List ℕ) (at : ℕ) (sh : Shape) (R : List Record) (f : PageFault) (e : StoreOpen) → e ≡ pages_refusal f → HeadSays file sh → WalkEnds file 63 at [] R → WhyNotFolded sh R f → IsRefused file e
+pages_refused file at sh R f e same head ends why = subst (IsRefused file) (sym same) (cause f why)
+  where
+    cause : (f : PageFault) → WhyNotFolded sh R f → IsRefused file (pages_refusal f)
+    cause (pages.BadPage b) why = record { shape = sh; head = head; at = at; R = R; ends = ends; stops = why }
+    cause pages.NoMemory why = tt
+
+pub found_in : (file bytes : List ℕ) (log : Kept) → bytes ≡ file → IsOpening bytes 63 [] (Ok log) → IsFound file 63 [] log
+found_in file bytes log here is = subst (λ (b : List ℕ). IsFound b 63 [] log) here is.1
+
+-- two readings of a log give the same records
+same_records : (file : List ℕ) (log : Kept) (items : List Record) → (all : AreAll file 63 items) → (found : IsFound file 63 [] log) → reverse items ≡ found.R
+same_records file log items all found =
+    let walked = all.ends.walked in
+    let once = walks_once walked.groups found.groups file 63 (Ok all.at) (Ok log.end) (ends_walk file 63 all.at walked.groups walked.between all.ends.shut) (ends_walk file 63 log.end found.groups found.between found.shut) in
+    holds_once found.groups [] (reverse items) found.R (subst (λ (g : List (List ℕ)). Holds g [] (reverse items)) once.0 walked.holds) found.holds
+
+pub is_read_of : {D : Type 0} (file : List ℕ) (r : Read D) (items first second : List Record) → HeadSays file r.shape → IsFound file 63 [] r.log → AreAll file 63 items
+    → first ≡ items → HasPages r.shape (reverse first) r.pages → second ≡ items → r.commits ≡ commit_count (reverse second) → IsReadOf file r
+is_read_of file r items first second head found all one pages two commits =
+    let same = same_records file r.log items all found in
+    record {
+      head = head;
+      R = found.R;
+      ends = record { walked = record { groups = found.groups; between = found.between; holds = found.holds }; shut = found.shut };
+      has = found.list.has;
+      none = found.none;
+      pages = subst (λ (l : List Record). HasPages r.shape l r.pages) (ap reverse one ∙ same) pages;
+      commits = commits ∙ ap (λ (l : List Record). commit_count (reverse l)) two ∙ ap commit_count same;
+    }

@@ -2,3 +2,4 @@ pub mod Store
 pub mod Survives
 pub mod Causes
 pub mod Refused
+pub mod Preparing

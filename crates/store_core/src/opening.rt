@@ -13,10 +13,12 @@ ghost use Rattle.redo_model.specs.Model.{commit_count, IsLawful};
 ghost use Rattle.redo_log.specs.Kept.{Holds};
 ghost use Rattle.redo_log.specs.Lasting.{IsOpened};
 ghost use Rattle.page_map.specs.Pages.{HasPages};
+ghost use Rattle.redo_log.specs.Found.{WalkEnds};
 ghost use Rattle.page_map.specs.declared.fault.PageFault.TheVariants as pages_fault;
 ghost use Rattle.store_core.specs.Store.{HasList, IsTrue, with_disk};
 ghost use Rattle.store_core.specs.Survives.{HasLog, IsSound, Survives};
 ghost use Rattle.store_core.specs.Causes.{IsSoundOpen, IsSoundFrame, IsSoundLog, AnswersSoundly};
+ghost use Rattle.store_core.specs.Preparing.{head_refusal, log_refusal, pages_refusal, HeadSays, IsRefused, IsPrepared, IsHeadRead, IsLogRead, AreRead};
 ghost use Rattle.store_core.specs.declared.fault.StoreOpen.TheVariants as opens;
 
 use crate::adding::commits_after;
@@ -31,6 +33,7 @@ use std::alloc::Global;
 use std::snapshot::Snapshot;
 
 fn of_frame(fault: FrameFault) -> StoreOpen
+    ensures same { result ≡ head_refusal fault }
     ensures device { result ≡ opens.DeviceFault → fault ≡ FrameFault.DeviceFault }
     ensures not_open { result ≡ opens.NotOpen → fault ≡ FrameFault.NotOpen }
     ensures sound { IsSoundFrame fault → IsSoundOpen result }
@@ -44,6 +47,7 @@ fn of_frame(fault: FrameFault) -> StoreOpen
 }
 
 fn of_log(fault: LogFault) -> StoreOpen
+    ensures same { result ≡ log_refusal fault }
     ensures device { result ≡ opens.DeviceFault → fault ≡ LogFault.DeviceFault }
     ensures not_open { result ≡ opens.NotOpen → fault ≡ LogFault.NotOpen }
     ensures sound { IsSoundLog fault → IsSoundOpen result }
@@ -57,6 +61,7 @@ fn of_log(fault: LogFault) -> StoreOpen
 }
 
 fn of_pages(fault: PageFault) -> StoreOpen
+    ensures same { result ≡ pages_refusal fault }
     ensures memory { fault ≡ pages_fault.NoMemory → result ≡ opens.NoMemory }
     ensures device { result ≡ opens.DeviceFault → ⊥ }
     ensures not_open { result ≡ opens.NotOpen → ⊥ }
@@ -69,6 +74,7 @@ fn of_pages(fault: PageFault) -> StoreOpen
 
 // What the head of the log says.
 fn shape_of<D: Disk>(disk: &mut D) -> Result<Shape, StoreOpen>
+    ensures found { D.meaning.told disk.old → IsHeadRead (D.meaning.files disk.old).log_bytes result }
     ensures whole { (sh : TheShape) (groups : List (List ℕ)) → D.meaning.told disk.old → IsLog sh groups (D.meaning.files disk.old).log_bytes → AnswersSoundly result (λ shape. shape ≡ sh) }
     ensures not_open { D.meaning.told disk.old → IsErrOf result opens.NotOpen → is_formatted (D.meaning.files disk.old).log_bytes ≡ false }
     ensures cause { Causes D.meaning disk.old disk.new (IsErrOf result opens.DeviceFault) }
@@ -82,6 +88,7 @@ fn shape_of<D: Disk>(disk: &mut D) -> Result<Shape, StoreOpen>
 
 // The log from its first gate on.
 fn log_of<D: Disk>(alloc: Global, disk: &mut D) -> Result<RedoLog, StoreOpen>
+    ensures found { (file : List ℕ) (sh : TheShape) → D.meaning.told disk.old → (D.meaning.files disk.old).log_bytes ≡ file → HeadSays file sh → IsLogRead file result }
     ensures whole { (sh : TheShape) (groups : List (List ℕ)) (R : List Record) → IsSettled D.meaning disk.old Log → IsLog sh groups (D.meaning.files disk.old).log_bytes → Holds groups [] R
         → AnswersSoundly result (IsOpened D.meaning disk.new sh groups groups [] R) }
     ensures room { IfOk result (λ log. 18 ≤ log.waiting.room) }
@@ -97,6 +104,7 @@ fn log_of<D: Disk>(alloc: Global, disk: &mut D) -> Result<RedoLog, StoreOpen>
 
 // All records of the log.
 fn records_of<D: Disk>(alloc: Global, disk: &mut D, log: &RedoLog) -> Result<Vec<Record>, StoreOpen>
+    ensures found { (file : List ℕ) (sh : TheShape) → D.meaning.told disk.old → (D.meaning.files disk.old).log_bytes ≡ file → HeadSays file sh → AreRead file result }
     ensures whole { (sh : TheShape) (groups : List (List ℕ)) (R : List Record) → D.meaning.told disk.old → IsLog sh groups (D.meaning.files disk.old).log_bytes → Holds groups [] R
         → AnswersSoundly result (λ records. reverse records.items ≡ R) }
     ensures few { IfOk result (λ records. length records.items < 2 ^ 64) }
@@ -116,6 +124,7 @@ fn records_of<D: Disk>(alloc: Global, disk: &mut D, log: &RedoLog) -> Result<Vec
 // The pages that some records make.
 fn pages_of(alloc: Global, shape: &Shape, records: &[Record]) -> Result<Pages, StoreOpen>
     ensures pages { IfOk result (HasPages shape.now (reverse records.now)) }
+    ensures why { (file : List ℕ) (at : ℕ) → HeadSays file shape.now → WalkEnds file FIRST_GATE at [] (reverse records.now) → IfErr result (IsRefused file) }
     ensures lawful { is_shape shape.now ≡ true → IsLawful shape.now (reverse records.now) → IfErr result (λ e. e ≡ opens.NoMemory) }
     ensures device { IsErrOf result opens.DeviceFault → ⊥ }
     ensures not_open { IsErrOf result opens.NotOpen → ⊥ }
@@ -142,6 +151,7 @@ fn count_commits(records: &[Record]) -> Scn
 /// the log isn't formatted, `BadLog` for the first byte of the log that is wrong, and `BadPage` where a record doesn't fit on
 /// the page of a block that it touches. No file is changed.
 pub fn prepare<D: Disk>(alloc: Global, disk: &mut D) -> Result<Loaded<D>, StoreOpen>
+    ensures prepared { D.meaning.told disk.old → IsPrepared (D.meaning.files disk.old).log_bytes result }
     ensures list { (sh : TheShape) (R : List Record) → IsSettled D.meaning disk.old Log → HasLog sh R (D.meaning.files disk.old).log_bytes
         → IfOk result (λ loaded. (loan : GName) → HasList D.meaning R (with_disk disk.new loan loaded)) }
     ensures lawful { (sh : TheShape) (R : List Record) → IsSettled D.meaning disk.old Log → HasLog sh R (D.meaning.files disk.old).log_bytes → IsLawful sh R
@@ -187,6 +197,7 @@ pub fn prepare<D: Disk>(alloc: Global, disk: &mut D) -> Result<Loaded<D>, StoreO
 /// The store of a disk, whose redo list is that of the log. Of the disk after an `Err` it says nothing: use `prepare` and
 /// `Store::over` where that counts.
 pub fn replay<'a, D: Disk>(alloc: Global, disk: &'a mut D) -> Result<Store<'a, D>, StoreOpen>
+    ensures refused { D.meaning.told disk.old → IfErr result (IsRefused (D.meaning.files disk.old).log_bytes) }
     ensures list { (sh : TheShape) (R : List Record) → IsSettled D.meaning disk.old Log → HasLog sh R (D.meaning.files disk.old).log_bytes
         → IfOk result (HasList D.meaning R) }
     ensures lawful { (sh : TheShape) (R : List Record) → IsSettled D.meaning disk.old Log → HasLog sh R (D.meaning.files disk.old).log_bytes → IsLawful sh R

@@ -8,13 +8,13 @@
 mod adding;
 mod fault;
 mod flushing;
-mod mark;
+mod lowered;
 mod opening;
 mod pages;
 mod refusing;
 mod store;
 
 pub use fault::{StoreFault, StoreOpen};
-pub use mark::{Lowered, MarkStep};
+pub use lowered::Lowered;
 pub use opening::{prepare, replay};
 pub use store::{Loaded, Store};

@@ -1,17 +1,5 @@
-// What is done to a table's marks.
+// What is answered where a table's marks are lowered.
 use redo_record::Extents;
-use seg_base::Dba;
-
-/// How a table gets more blocks that take rows.
-#[derive(Clone, Copy, Debug, PartialEq, Eq)]
-pub enum MarkStep {
-    /// The first unformatted block under the high mark is formatted.
-    Format(Dba),
-    /// The marks go up.
-    Advance,
-    /// The table gets this extent.
-    Extend(u32),
-}
 
 /// What a lowering of a table's marks released.
 #[derive(Debug, Drop)]

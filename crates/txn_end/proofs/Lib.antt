@@ -1,0 +1,8 @@
+pub mod Looked
+pub mod Made
+pub mod Given
+pub mod EndBack
+pub mod Taking
+pub mod Gathering
+pub mod Backing
+pub mod Numbers

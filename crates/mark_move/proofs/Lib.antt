@@ -1,0 +1,4 @@
+pub mod Drafting
+pub mod Looked
+pub mod Truth
+pub mod Added

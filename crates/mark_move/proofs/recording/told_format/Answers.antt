@@ -1,0 +1,8 @@
+use Rattle.mark_move.proofs.Truth.{segment_says, segment_extents}
+use Rattle.mark_move.proofs.recording.told_format.Goals as goal
+
+pub returns-clause-says : goal.returns-clause-says
+returns-clause-says g c = λ R o t i e is. c.draft_format.ensures.says R o is (segment_says c.args.shape.now c.args.store.now.shape R o c.args.segment.now.header c.frame.result.now t.list.within t.lawful i e is.header (c.frame.ensures R t.list))
+
+pub returns-clause-right : goal.returns-clause-right
+returns-clause-right g c = λ R o t i e is l. c.draft_format.ensures.right R o (segment_says c.args.shape.now c.args.store.now.shape R o c.args.segment.now.header c.frame.result.now t.list.within t.lawful i e is.header (c.frame.ensures R t.list)) (segment_extents c.args.shape.now c.args.store.now.shape R o t.lawful i e) l

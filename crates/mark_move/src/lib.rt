@@ -1,4 +1,5 @@
-//! New tables, row movement, and the marks of a table: each call adds its record, which is allowed.
+//! Row movement, and the marks of a table: each call adds one record, which is allowed. What a new table needs, how many
+//! tables there are and which extent is free, is read here too; the call that makes one isn't there yet.
 #![tactic(auto)]
 
 mod adding;

@@ -6,8 +6,8 @@ use Rattle.log_frame.specs.Types.{is_formatted, group_found, IsGroupFound}
 use Rattle.log_frame.specs.declared.log.Group.{Group}
 use Rattle.log_frame.specs.declared.fault.FrameFault.{FrameFault}
 use Rattle.log_frame.specs.declared.log.TheConstants.{GROUP_HEAD_SIZE}
-use Rattle.recovery.specs.Store.{fault_of, IsShapeFound, IsLogOpened}
-use Rattle.recovery.specs.declared.fault.OpenFault.{OpenFault}
+use Rattle.store_files.specs.Store.{fault_of, IsShapeFound, IsLogOpened}
+use Rattle.store_files.specs.declared.fault.OpenFault.{OpenFault}
 use Rattle.seg_words.specs.Types.{Shape, FIRST_GATE}
 use Rattle.assm.specs.declared.record.Record.{Record}
 use Rattle.assm.specs.declared.replay.GroupFault.{GroupFault}
@@ -15,7 +15,7 @@ use Rattle.assm.specs.Lawful.{IsAllowed, Replays}
 use Rattle.assm.specs.Plain.{record_in}
 use Rattle.assm.specs.Finds.{IsRead, IsOneRead, IsBadGroup, IsReadUpTo, HasRecords, Finds, HasStore}
 use Rattle.log_frame.specs.declared.fault.FrameFault.TheVariants as frame
-use Rattle.recovery.specs.declared.fault.OpenFault.TheVariants as opening
+use Rattle.store_files.specs.declared.fault.OpenFault.TheVariants as opening
 use Rattle.assm.specs.declared.replay.GroupFault.TheVariants as group
 
 -- ---- one record

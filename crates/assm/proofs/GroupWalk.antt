@@ -7,7 +7,7 @@ use Rattle.log_frame.specs.declared.log.Group.{Group}
 use Rattle.log_frame.specs.declared.log.TheConstants.{GROUP_HEAD_SIZE}
 use Rattle.seg_words.specs.Types.{Shape, FIRST_GATE}
 use Rattle.disk_model.specs.Types.{Files, Meaning, Untouched}
-use Rattle.recovery.specs.Store.{fault_of}
+use Rattle.store_files.specs.Store.{fault_of}
 use Rattle.assm.specs.Opens.{IsOutside}
 use Rattle.assm.specs.declared.record.Record.{Record}
 use Rattle.assm.specs.Lawful.{IsLawful}

@@ -4,8 +4,8 @@ use Rattle.seg_words.specs.Types.{Shape}
 use Rattle.disk_model.specs.Types.{Files, Meaning, Untouched, IsSettled}
 use Rattle.disk_model.specs.declared.disk.File.TheVariants.{Log}
 use Rattle.log_frame.specs.Types.{IsLog, IsReady}
-use Rattle.recovery.specs.Store.{Answers, IsStore}
-use Rattle.recovery.specs.declared.fault.OpenFault.{OpenFault}
+use Rattle.store_files.specs.Store.{Answers, IsStore}
+use Rattle.store_files.specs.declared.fault.OpenFault.{OpenFault}
 use Rattle.assm.specs.declared.record.Record.{Record}
 use Rattle.assm.specs.Redo.{prefix}
 use Rattle.assm.specs.Lawful.{IsLawful}
@@ -13,7 +13,7 @@ use Rattle.assm.specs.Runs.{Grows}
 use Rattle.assm.specs.Survives.{Holds, has_blocks, IsSound, IsLive}
 use Rattle.assm.specs.Opens.{StartsSound, IsOutside, TakenBack}
 use Rattle.assm.proofs.Histories.{prefix_all, prefix_grown}
-use Rattle.recovery.specs.declared.fault.OpenFault.TheVariants as opening
+use Rattle.store_files.specs.declared.fault.OpenFault.TheVariants as opening
 use Rattle.assm.specs.declared.record.Record.TheVariants as made
 
 pub outside_of : {A : Type 0} (fault : OpenFault) (P : A → Type 0) → Answers (Err fault) P → IsOutside fault

@@ -14,7 +14,7 @@ use Rattle.assm.specs.Redo.{prefix, commit_count}
 use Rattle.assm.specs.Lawful.{IsLawful}
 use Rattle.assm.specs.Legal.{AreInTime}
 use Rattle.assm.specs.Plain.{spelled_all, AreFit}
-use Rattle.recovery.specs.Store.{data_size}
+use Rattle.store_files.specs.Store.{data_size}
 use Rattle.assm.specs.Survives.{Holds, has_blocks, IsSound, AreTold, commit_told, SurvivesIn, Survives, Lasts, IsStable, IsLive}
 use Rattle.assm.proofs.Histories.{prefix_all, prefix_grown}
 use Rattle.assm.specs.declared.entry.HistoryItem.TheVariants as item

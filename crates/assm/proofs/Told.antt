@@ -5,7 +5,7 @@ use Rattle.disk_model.specs.Types.{Files, Meaning, Now, Untouched}
 use Rattle.log_frame.specs.Types.{IsLog}
 use Rattle.assm.specs.declared.record.Record.{Record}
 use Rattle.assm.specs.declared.entry.HistoryItem.{HistoryItem}
-use Rattle.recovery.specs.declared.fault.OpenFault.{OpenFault}
+use Rattle.store_files.specs.declared.fault.OpenFault.{OpenFault}
 use Rattle.assm.specs.declared.fault.RunFault.{RunFault}
 use Rattle.assm.specs.Redo.{prefix}
 use Rattle.assm.specs.Survives.{IsSound, IsLive, Holds}
@@ -18,7 +18,7 @@ use Rattle.assm.specs.Finds.{Finds}
 use Rattle.assm.specs.Lines.{text_of}
 use Rattle.assm.specs.Top.{RanPart, IsAccepted, RunTells, ScriptTells, FormatTells, HadScript, IsRefused}
 use Rattle.assm.proofs.Histories.{prefix_all}
-use Rattle.recovery.specs.declared.fault.OpenFault.TheVariants as opening
+use Rattle.store_files.specs.declared.fault.OpenFault.TheVariants as opening
 use Rattle.assm.specs.declared.fault.RunFault.TheVariants as run
 use Rattle.assm.specs.declared.status.Status.TheVariants as the
 

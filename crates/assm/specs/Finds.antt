@@ -7,9 +7,9 @@ use Rattle.disk_model.specs.declared.disk.File.TheVariants.{Data, Log}
 use Rattle.log_frame.specs.Types.{is_formatted, shape_found, group_found, wrong, Walked}
 use Rattle.log_frame.specs.declared.log.Group.{Group}
 use Rattle.log_frame.specs.declared.log.TheConstants.{GROUP_HEAD_SIZE}
-use Rattle.recovery.specs.Store.{data_size}
-use Rattle.recovery.specs.declared.fault.OpenFault.{OpenFault}
-use Rattle.recovery.specs.declared.fault.OpenFault.TheVariants.{NotFormatted, BadFile, AlreadyFormatted}
+use Rattle.store_files.specs.Store.{data_size}
+use Rattle.store_files.specs.declared.fault.OpenFault.{OpenFault}
+use Rattle.store_files.specs.declared.fault.OpenFault.TheVariants.{NotFormatted, BadFile, AlreadyFormatted}
 use Rattle.assm.specs.declared.record.Record.{Record}
 use Rattle.assm.specs.Lawful.{IsAllowed}
 use Rattle.assm.specs.Plain.{record_in}

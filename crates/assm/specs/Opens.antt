@@ -3,9 +3,9 @@ use Rattle.std.specs.Prelude.{◌≡◌, ◌⊎◌, false, List, [], Result, Ok,
 use Rattle.seg_words.specs.Types.{Shape}
 use Rattle.disk_model.specs.Types.{Files, Meaning, Now}
 use Rattle.log_frame.specs.Types.{is_formatted}
-use Rattle.recovery.specs.declared.fault.OpenFault.{OpenFault}
-use Rattle.recovery.specs.declared.fault.OpenFault.TheVariants.{DeviceFault, AlreadyFormatted, NoMemory}
-use Rattle.recovery.specs.Store.{AreZero}
+use Rattle.store_files.specs.declared.fault.OpenFault.{OpenFault}
+use Rattle.store_files.specs.declared.fault.OpenFault.TheVariants.{DeviceFault, AlreadyFormatted, NoMemory}
+use Rattle.store_files.specs.Store.{AreZero}
 use Rattle.assm.specs.declared.record.Record.{Record}
 use Rattle.assm.specs.Redo.{active_in}
 use Rattle.assm.specs.Means.{TakesBack}

@@ -4,7 +4,7 @@ use Rattle.disk_model.specs.declared.disk.File.{File}
 use Rattle.disk_model.specs.declared.disk.File.TheVariants.{Data, Log}
 use Rattle.text_port.specs.declared.whole.ReadEnd.{ReadEnd}
 use Rattle.assm.specs.declared.fault.RunFault.{RunFault}
-use Rattle.recovery.specs.declared.fault.OpenFault.{OpenFault}
+use Rattle.store_files.specs.declared.fault.OpenFault.{OpenFault}
 use Rattle.assm.specs.declared.script.ScriptFault.{ScriptFault}
 use Rattle.assm.specs.declared.script.Why.{Why}
 use Rattle.assm.specs.declared.script.Why.TheVariants.{NotAStatement}
@@ -12,7 +12,7 @@ use Rattle.assm.specs.declared.status.Status.{Status}
 use Rattle.assm.specs.declared.status.Status.TheVariants.{Done, BadWords, BadScript, DeviceFault, NoMemory, BadFile, NotFormatted, ReadFault, WriteFault, ScriptTooLong, AlreadyFormatted}
 use Rattle.text_port.specs.declared.whole.ReadEnd.TheVariants as read
 use Rattle.assm.specs.declared.fault.RunFault.TheVariants as run
-use Rattle.recovery.specs.declared.fault.OpenFault.TheVariants as opening
+use Rattle.store_files.specs.declared.fault.OpenFault.TheVariants as opening
 use Rattle.assm.specs.declared.script.ScriptFault.TheVariants as script
 
 abbrev pub number_of : Status → ℕ

@@ -4,7 +4,7 @@ use Rattle.std.specs.Prelude.{◌≡◌, ℕ, ◌≤◌, List, [], ◌∷◌, �
 use Rattle.seg_words.specs.Types.{Shape}
 use Rattle.disk_model.specs.Types.{Files, Meaning, Now}
 use Rattle.log_frame.specs.Types.{IsLog, IsReady}
-use Rattle.recovery.specs.Store.{data_size}
+use Rattle.store_files.specs.Store.{data_size}
 use Rattle.assm.specs.declared.record.Record.{Record}
 use Rattle.assm.specs.declared.entry.Outcome.{Outcome}
 use Rattle.assm.specs.declared.entry.Outcome.TheVariants.{Committed}

@@ -6,8 +6,8 @@ ghost use Rattle.log_frame.specs.Types.{is_formatted};
 ghost use Rattle.assm.specs.Opens.{StartsBlank, BlankOrEmpty, IsMade, IsFormatFault};
 
 use disk_model::Disk;
-use recovery::OpenFault;
 use seg_base::Shape;
+use store_files::OpenFault;
 
 /// Makes the empty store of that shape, on a log that isn't formatted. At any moment of the call a crash leaves a log that
 /// isn't formatted, or the whole store.
@@ -22,7 +22,7 @@ pub fn format<D: Disk>(disk: &mut D, shape: &Shape) -> Result<(), OpenFault>
     ensures only { IfErr result (λ fault. IsFormatFault fault) }
     ensures cause { Causes D.meaning disk.old disk.new (IsErrOf result OpenFault.DeviceFault) }
 {
-    match recovery::format(disk, *shape) {
+    match store_files::format(disk, *shape) {
         Ok(()) => Ok(()),
         Err(fault) => Err(fault),
     }

@@ -16,9 +16,9 @@ use crate::store::PlainStore;
 use crate::world::World;
 use disk_model::{Disk, File};
 use log_frame::LogFile;
-use recovery::{OpenFault, open_log, read_head};
 use seg_base::{FIRST_GATE, Newest};
 use std::alloc::Global;
+use store_files::{OpenFault, open_log, read_head};
 
 /// What is wrong with a group, whose payload ends before the next gate.
 fn bad_group(payload: &[u8], next: u64, fault: GroupFault) -> OpenFault

@@ -5,8 +5,8 @@ ghost use Rattle.assm.specs.Status.{number_of, status_of_run, status_of_read, st
 use crate::fault::RunFault;
 use crate::script::{ScriptFault, Why};
 use disk_model::File;
-use recovery::OpenFault;
 use std::fmt;
+use store_files::OpenFault;
 use text_port::ReadEnd;
 
 /// Shown as the variant's name, with its fields after spaces: numbers in decimal, a file as `data` or `log`.

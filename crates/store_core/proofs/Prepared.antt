@@ -10,7 +10,7 @@ use Rattle.disk_model.specs.declared.disk.File.TheVariants.{Log}
 use Rattle.disk_model.proofs.Runs.{settles_looked}
 use Rattle.log_frame.specs.Spelling.{IsLog}
 use Rattle.log_frame.specs.Ready.{IsReady}
-use Rattle.recovery.specs.Store.{IsDurable}
+use Rattle.store_files.specs.Store.{IsDurable}
 use Rattle.redo_model.specs.Records.{Record}
 use Rattle.redo_model.specs.Model.{commit_count, is_whole, IsLawful}
 use Rattle.redo_model.specs.Lists.{same}

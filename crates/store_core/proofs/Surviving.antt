@@ -8,7 +8,7 @@ use Rattle.disk_model.specs.Crash.{Meaning, Now, Leaves}
 use Rattle.disk_model.specs.Only.{OnlyFile}
 use Rattle.disk_model.specs.declared.disk.File.TheVariants.{Log}
 use Rattle.log_frame.specs.Spelling.{IsLog}
-use Rattle.recovery.specs.Store.{data_size}
+use Rattle.store_files.specs.Store.{data_size}
 use Rattle.redo_model.specs.Records.{Record}
 use Rattle.redo_model.specs.Model.{AreAllowed, IsLawful}
 use Rattle.redo_model.specs.Lists.{Extends, same, more}

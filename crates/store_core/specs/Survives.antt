@@ -4,7 +4,7 @@ use Rattle.seg_words.specs.Types.{Shape}
 use Rattle.disk_model.specs.Files.{Files}
 use Rattle.disk_model.specs.Crash.{Meaning, Always}
 use Rattle.log_frame.specs.Spelling.{IsLog}
-use Rattle.recovery.specs.Store.{data_size}
+use Rattle.store_files.specs.Store.{data_size}
 use Rattle.redo_model.specs.Records.{Record}
 use Rattle.redo_model.specs.Model.{Extends, IsLawful}
 use Rattle.redo_log.specs.Kept.{Holds}

@@ -7,7 +7,7 @@ ghost use Rattle.disk_model.specs.Only.{IsSettled};
 ghost use Rattle.disk_model.specs.declared.disk.File.TheVariants.{Log};
 ghost use Rattle.log_frame.specs.Head.{is_formatted};
 ghost use Rattle.log_frame.specs.Spelling.{IsLog};
-ghost use Rattle.recovery.specs.Store.{IsDurable};
+ghost use Rattle.store_files.specs.Store.{IsDurable};
 ghost use Rattle.redo_model.specs.Records.{Record};
 ghost use Rattle.redo_model.specs.Model.{commit_count, IsLawful};
 ghost use Rattle.redo_log.specs.Kept.{Holds};

@@ -2,8 +2,8 @@ use Rattle.std.proofs.Common.{◌≡◌, ℕ, List, [], length, ap, sym, ◌∙�
 use Rattle.seg_words.specs.Types.{FIRST_GATE}
 use Rattle.disk_model.specs.Types.{Files}
 use Rattle.log_frame.specs.Types.{is_formatted, IsReady}
-use Rattle.recovery.specs.Store.{IsLogOpened}
-use Rattle.recovery.specs.declared.fault.OpenFault.{OpenFault}
+use Rattle.store_files.specs.Store.{IsLogOpened}
+use Rattle.store_files.specs.declared.fault.OpenFault.{OpenFault}
 use Rattle.assm.specs.declared.world.World.{World}
 use Rattle.disk_model.proofs.Lemmas.{untouched_then}
 use Rattle.assm.specs.declared.record.Record.{Record}

@@ -1,5 +1,5 @@
 use Rattle.std.proofs.Common.{◌≡◌, ◌+◌, length, IfSome, List, Option, Ok, Err, arith, ap, subst, sym, ◌∙◌}
-use Rattle.recovery.specs.declared.fault.OpenFault.{OpenFault}
+use Rattle.store_files.specs.declared.fault.OpenFault.{OpenFault}
 use Rattle.assm.specs.declared.replay.GroupFault.{GroupFault}
 use Rattle.assm.specs.Finds.{Finds, HasRecords}
 use Rattle.assm.proofs.Finding.{more_up_to, all_up_to, group_refused, record_refused, read_of}

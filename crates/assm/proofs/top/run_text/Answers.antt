@@ -1,7 +1,7 @@
 use Rattle.std.proofs.Common.{List, length, ap, sym, ◌∙◌, subst, Ok, Err}
 use Rattle.assm.specs.declared.statement.Statement.{Statement}
 use Rattle.assm.specs.declared.status.Status.{Status}
-use Rattle.recovery.specs.declared.fault.OpenFault.{OpenFault}
+use Rattle.store_files.specs.declared.fault.OpenFault.{OpenFault}
 use Rattle.assm.specs.declared.world.World.{World}
 use Rattle.assm.specs.Finds.{OpensWith}
 use Rattle.log_frame.specs.Types.{is_formatted}

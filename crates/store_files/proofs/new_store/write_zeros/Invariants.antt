@@ -1,8 +1,8 @@
 use Rattle.std.proofs.Common.{◌≡◌, ◌-◌, ◌≤◌, ◌↔◌}
 use Rattle.disk_model.specs.Types.{IsSettled}
 use Rattle.disk_model.specs.declared.disk.File.TheVariants.{Data}
-use Rattle.recovery.proofs.Zeros.{Zeroed}
-use Rattle.recovery.proofs.new_store.write_zeros.Given as goal
+use Rattle.store_files.proofs.Zeros.{Zeroed}
+use Rattle.store_files.proofs.new_store.write_zeros.Given as goal
 
 abbrev pub invariant-pieces : goal.invariant-pieces
 invariant-pieces g l =

@@ -4,7 +4,7 @@ ghost use Rattle.seg_words.specs.Types.{Shape};
 ghost use Rattle.disk_model.specs.Types.{Causes, Untouched, IsSettled};
 ghost use Rattle.disk_model.specs.declared.disk.File.TheVariants.{Log};
 ghost use Rattle.log_frame.specs.Types.{frames, IsLog, IsReady};
-ghost use Rattle.recovery.specs.Store.{data_size, IsStore, IsShapeFound, IsLogOpened, Answers};
+ghost use Rattle.store_files.specs.Store.{data_size, IsStore, IsShapeFound, IsLogOpened, Answers};
 
 use crate::OpenFault;
 use disk_model::{Disk, File};

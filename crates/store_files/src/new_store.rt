@@ -4,7 +4,7 @@ ghost use Rattle.disk_model.specs.Types.{Files, content, written, Torn, Leaves, 
 ghost use Rattle.disk_model.specs.declared.disk.File.TheVariants.{Data, Log};
 ghost use Rattle.seg_words.specs.Types.{is_shape};
 ghost use Rattle.log_frame.specs.Types.{is_formatted};
-ghost use Rattle.recovery.specs.Store.{FormatAnswers, IsDurable, IsEmptyStore, IsFormatFault, NoneOrEmpty};
+ghost use Rattle.store_files.specs.Store.{FormatAnswers, IsDurable, IsEmptyStore, IsFormatFault, NoneOrEmpty};
 
 use crate::OpenFault;
 use disk_model::{Disk, File};

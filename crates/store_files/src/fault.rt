@@ -1,6 +1,6 @@
 // What can be wrong with a store's files.
 ghost use Rattle.std.specs.Prelude.{◌≡◌};
-ghost use Rattle.recovery.specs.Store.{fault_of};
+ghost use Rattle.store_files.specs.Store.{fault_of};
 
 use disk_model::File;
 use log_frame::FrameFault;

@@ -3,8 +3,8 @@ use Rattle.std.proofs.Common.{◌≡◌, ℕ, Err}
 use Rattle.disk_model.specs.Types.{Files}
 use Rattle.log_frame.specs.Types.{IsHeadFound, IsOpening, Answers as AnswersFrame}
 use Rattle.log_frame.specs.declared.fault.FrameFault.{FrameFault}
-use Rattle.recovery.specs.declared.fault.OpenFault.TheVariants.{AlreadyFormatted}
-use Rattle.recovery.specs.Store.{IsShapeFound, IsLogOpened, Answers, fault_of}
+use Rattle.store_files.specs.declared.fault.OpenFault.TheVariants.{AlreadyFormatted}
+use Rattle.store_files.specs.Store.{IsShapeFound, IsLogOpened, Answers, fault_of}
 use Rattle.log_frame.specs.declared.fault.FrameFault.TheVariants as frame
 
 pub head_refused : (files : Files) (fault : FrameFault) → IsHeadFound files.log_bytes (Err fault) → IsShapeFound files (Err (fault_of fault))

@@ -1,9 +1,9 @@
 use Rattle.std.proofs.Common.{◌≡◌, ◌+◌, ◌≤◌, ℕ, replicate, ◌∙◌, subst, arith}
 use Rattle.disk_model.proofs.Lemmas.{after_sync, is_put}
 use Rattle.disk_model.specs.declared.disk.File.TheVariants.{Data}
-use Rattle.recovery.specs.declared.new_store.TheConstants.{PIECE}
-use Rattle.recovery.proofs.Zeros.{Zeroed, zero_torn, zero_more, zeros_of, torn_zeros}
-use Rattle.recovery.proofs.new_store.write_zeros.Goals as goal
+use Rattle.store_files.specs.declared.new_store.TheConstants.{PIECE}
+use Rattle.store_files.proofs.Zeros.{Zeroed, zero_torn, zero_more, zeros_of, torn_zeros}
+use Rattle.store_files.proofs.new_store.write_zeros.Goals as goal
 
 pub returns-in_err-write_at-clause-any_moment : goal.returns-in_err-write_at-clause-any_moment
 returns-in_err-write_at-clause-any_moment g c settled =

@@ -5,8 +5,8 @@ use Rattle.disk_model.specs.Types.{Files, Meaning, Now}
 use Rattle.disk_model.specs.declared.disk.File.TheVariants.{Data, Log}
 use Rattle.log_frame.specs.Types.{is_formatted, shape_found, wrong, Walked, IsLog}
 use Rattle.log_frame.specs.declared.fault.FrameFault.{FrameFault}
-use Rattle.recovery.specs.declared.fault.OpenFault.{OpenFault}
-use Rattle.recovery.specs.declared.fault.OpenFault.TheVariants.{DeviceFault, NotFormatted, BadFile, AlreadyFormatted, NoMemory}
+use Rattle.store_files.specs.declared.fault.OpenFault.{OpenFault}
+use Rattle.store_files.specs.declared.fault.OpenFault.TheVariants.{DeviceFault, NotFormatted, BadFile, AlreadyFormatted, NoMemory}
 use Rattle.log_frame.specs.declared.fault.FrameFault.TheVariants as frame
 
 -- the same fault of a log

@@ -1,6 +1,6 @@
 -- The blocks whose pages a record changes.
 use Rattle.std.specs.Prelude.{ℕ, ◌-◌, ◌%◌, ◌+◌, min, max, List, [], ◌∷◌, ◌++◌, Option, Some, None}
-use Rattle.seg_words.specs.Types.{Shape, first_block}
+use Rattle.seg_words.specs.Types.{Shape, first_block, OWN_BLOCKS}
 use Rattle.redo_model.specs.Records.{Record, Table, Movement, Extend, FormatBlock, Class, Advance, Lower, Begin, Reuse, Insert, Update, Migrate, Return, Delete, Commit, Back, Ended, Move, Clean, RowBody, RowPart, BackPart}
 
 abbrev pub blocks_of : List RowPart → List ℕ
@@ -16,7 +16,7 @@ touched_by_row w = 1 ∷ w.undo.block ∷ blocks_of w.parts
 
 -- the first block of the extent in which a block stands, where its first level stands
 abbrev pub first_of : Shape → ℕ → ℕ
-first_of sh b = b - (b - (37 + sh.undo)) % max sh.extent 1
+first_of sh b = b - (b - (OWN_BLOCKS + sh.undo)) % max sh.extent 1
 
 -- those that are there
 abbrev pub those : List (Option ℕ) → List ℕ

@@ -1,7 +1,7 @@
 -- Undo is enough: addresses are distinct, what an active transaction needs to be taken back is never reused, and no block
 -- overflows.
 use Rattle.std.specs.Prelude.{◌≡◌, ℕ, ◌≤◌, true, false, List, [], ◌∷◌}
-use Rattle.seg_words.specs.Types.{Shape, By}
+use Rattle.seg_words.specs.Types.{Shape, By, BLOCK_ROOM}
 use Rattle.redo_model.specs.Records.{Record}
 use Rattle.redo_model.specs.Model.{Step, part_addr, is_active, is_addr, standing, undo_used, is_reused, AreAllowed}
 
@@ -22,7 +22,7 @@ IsKept R st = (u j : ℕ) → st.by ≡ By u → is_active R u ≡ true → is_r
 pub record UndoIsKept (R : List Record) : Type 0 where
   pub distinct : HaveOwnUndo (standing R)
   pub kept : EachStep (IsKept R) (standing R)
-  pub full : (u : ℕ) → undo_used R u ≤ 4032
+  pub full : (u : ℕ) → undo_used R u ≤ BLOCK_ROOM
 
 abbrev pub UndoIsEnough : Type 0
 UndoIsEnough = (sh : Shape) (R : List Record) → AreAllowed sh R → UndoIsKept R

@@ -1,6 +1,6 @@
 -- What an allowed record states of slots and list entries can be put into its blocks.
 use Rattle.std.specs.Prelude.{◌≡◌, ℕ, ◌≤◌, ◌<◌, List, [], ◌∷◌, length, Some}
-use Rattle.seg_words.specs.Types.{Shape}
+use Rattle.seg_words.specs.Types.{Shape, BLOCK_ROOM, LONGEST_ROW, MOST_SLOTS, MOST_LIST_ENTRIES}
 use Rattle.redo_model.specs.Records.{Record, RowPart, BackPart}
 use Rattle.redo_model.specs.Model.{Effect, effect_of, image, slot_count, entry_count, AreAllowed}
 use Rattle.redo_model.specs.Effects.{Adds, TakesBack}
@@ -9,17 +9,17 @@ use Rattle.redo_model.specs.Effects.{Adds, TakesBack}
 -- states the image that stands there
 pub record PartFits (R : List Record) (p : RowPart) : Type 0 where
   pub there : p.slot ≤ slot_count R p.dba
-  pub few : p.slot < 100
-  pub bytes : length p.new.bytes ≤ 1800
-  pub room : p.new.room ≤ 4032
-  pub entry : (e : ℕ) → p.entry ≡ Some e → (e ≤ entry_count R p.dba) × (e < 8)
+  pub few : p.slot < MOST_SLOTS
+  pub bytes : length p.new.bytes ≤ LONGEST_ROW
+  pub room : p.new.room ≤ BLOCK_ROOM
+  pub entry : (e : ℕ) → p.entry ≡ Some e → (e ≤ entry_count R p.dba) × (e < MOST_LIST_ENTRIES)
   pub old : p.old ≡ image R p.dba p.slot
 
 -- a part of a Back
 pub record BackPartFits (R : List Record) (p : BackPart) : Type 0 where
   pub there : p.slot < slot_count R p.dba
-  pub few : p.slot < 100
-  pub bytes : length p.new.bytes ≤ 1800
+  pub few : p.slot < MOST_SLOTS
+  pub bytes : length p.new.bytes ≤ LONGEST_ROW
 
 abbrev pub EachFits : List Record → List RowPart → Type 0
 EachFits R [] = Unit {0}

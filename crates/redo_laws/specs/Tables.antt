@@ -1,14 +1,14 @@
 -- Laws on tables and marks: the low-mark rule, the view without a transaction, that records name tables that are there,
 -- and that the first records of a lawful list are lawful.
 use Rattle.std.specs.Prelude.{◌≡◌, ℕ, ◌≤◌, true, List, ◌∷◌, take, Option, Some, None}
-use Rattle.seg_words.specs.Types.{Shape}
+use Rattle.seg_words.specs.Types.{Shape, MOST_TABLES}
 use Rattle.redo_model.specs.Records.{Record, Movement, Extend, FormatBlock, Class, Advance, Lower, Insert, Update, Migrate, Return, Delete, Back, Move}
 use Rattle.redo_model.specs.Model.{prefix, IsTable, data_blocks, low_mark, first_unformatted, AreAllowed, IsLawful, is_whole}
 
 -- each block of a table at a position below its low mark is formatted
 abbrev pub LowMarkRule : Type 0
 LowMarkRule =
-    (sh : Shape) (R : List Record) (o : ℕ) → AreAllowed sh R → 1 ≤ o → o ≤ 32
+    (sh : Shape) (R : List Record) (o : ℕ) → AreAllowed sh R → 1 ≤ o → o ≤ MOST_TABLES
     → first_unformatted sh R (take (low_mark R o) (data_blocks sh R o)) ≡ None
 
 -- the first records of a lawful list, unless they end with a Table or a Reuse, are lawful

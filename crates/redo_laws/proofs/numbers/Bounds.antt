@@ -1,7 +1,7 @@
 -- How large the numbers of an allowed record are.
 use Rattle.std.proofs.Common.{◌≡◌, ℕ, zero, suc, ◌+◌, ◌-◌, ◌*◌, ◌<◌, ◌≤◌, max, Bool, true, false, cond, not, eqb, leb, List, [], ◌∷◌, ◌++◌, length, Option, Some, None, find, refl, ◌∙◌, ap, arith, inl, inr, length-append, le_trans, mul-le-mul, zero-add, eq-eqb, leb-true}
 use Rattle.seg_words.proofs.Lemmas.{cond_both, and_parts, or_left, or_right, prefix_len-le-length, sum_by-append}
-use Rattle.seg_words.specs.Types.{Class as BlockClass, Unformatted, Full, Fs1, Fs2, Fs3, Fs4, Shape, Writer, class_code, first_block, is_extent, head_blocks, is_shape}
+use Rattle.seg_words.specs.Types.{Class as BlockClass, Unformatted, Full, Fs1, Fs2, Fs3, Fs4, Shape, Writer, class_code, first_block, is_extent, head_blocks, is_shape, BLOCK_ROOM, MOST_UNDO_PARTS, MOST_EXTENTS, OWN_BLOCKS, LEAST_BLOCKS, MOST_BLOCKS, LEAST_EXTENT_BLOCKS, MOST_EXTENT_BLOCKS, LEAST_UNDO_BLOCKS, MOST_UNDO_BLOCKS, UNDO_PART_SIZE}
 use Rattle.redo_model.specs.Records.{Record, Reuse, RowPart}
 use Rattle.redo_model.specs.Model.{Effect, effect_of, count_of, is_commit, is_insert, is_begin, is_lower, Extent, extents_of, blocks_from, data_of, data_blocks, is_formatted, has_extent, extent_at, block_in, index_of, group_start, kept_class, code_of, good_code, best_of, best_in_group, best_in_l2, best_of_found, best_in_l1, Undone, undone_after, emptied_by, parts_size, undone, undo_parts, undo_used, current_undo, undo_sequence, has_holder, ring_after, next_undo, AreAllowed}
 use Rattle.redo_model.specs.Effects.{Adds}
@@ -35,31 +35,31 @@ numbers_are_short R = record {
 
 -- the limits of a store
 pub record Limits (sh : Shape) : Type 0 where
-  pub most : sh.blocks ≤ 16384
-  pub extent_from : 8 ≤ sh.extent
-  pub extent_to : sh.extent ≤ 64
-  pub undo_from : 2 ≤ sh.undo
-  pub all : 37 + sh.undo + sh.extent ≤ sh.blocks
+  pub most : sh.blocks ≤ MOST_BLOCKS
+  pub extent_from : LEAST_EXTENT_BLOCKS ≤ sh.extent
+  pub extent_to : sh.extent ≤ MOST_EXTENT_BLOCKS
+  pub undo_from : LEAST_UNDO_BLOCKS ≤ sh.undo
+  pub all : OWN_BLOCKS + sh.undo + sh.extent ≤ sh.blocks
 
 pub limits : (sh : Shape) → is_shape sh ≡ true → Limits sh
 limits sh h =
-    let a = and_parts _ (leb (37 + sh.undo + sh.extent) sh.blocks) h in
-    let b = and_parts _ (leb sh.undo 1024) a.0 in
-    let c = and_parts _ (leb 2 sh.undo) b.0 in
-    let d = and_parts _ (leb sh.extent 64) c.0 in
-    let e = and_parts _ (leb 8 sh.extent) d.0 in
-    let f = and_parts (leb 64 sh.blocks) (leb sh.blocks 16384) e.0 in
+    let a = and_parts _ (leb (OWN_BLOCKS + sh.undo + sh.extent) sh.blocks) h in
+    let b = and_parts _ (leb sh.undo MOST_UNDO_BLOCKS) a.0 in
+    let c = and_parts _ (leb LEAST_UNDO_BLOCKS sh.undo) b.0 in
+    let d = and_parts _ (leb sh.extent MOST_EXTENT_BLOCKS) c.0 in
+    let e = and_parts _ (leb LEAST_EXTENT_BLOCKS sh.extent) d.0 in
+    let f = and_parts (leb LEAST_BLOCKS sh.blocks) (leb sh.blocks MOST_BLOCKS) e.0 in
     record {
-      most = leb-true sh.blocks 16384 f.1;
-      extent_from = leb-true 8 sh.extent e.1;
-      extent_to = leb-true sh.extent 64 d.1;
-      undo_from = leb-true 2 sh.undo c.1;
-      all = leb-true (37 + sh.undo + sh.extent) sh.blocks a.1;
+      most = leb-true sh.blocks MOST_BLOCKS f.1;
+      extent_from = leb-true LEAST_EXTENT_BLOCKS sh.extent e.1;
+      extent_to = leb-true sh.extent MOST_EXTENT_BLOCKS d.1;
+      undo_from = leb-true LEAST_UNDO_BLOCKS sh.undo c.1;
+      all = leb-true (OWN_BLOCKS + sh.undo + sh.extent) sh.blocks a.1;
     }
 
 -- data blocks
 
-pub data_bound : (sh : Shape) (R : List Record) (o b : ℕ) → AreAllowed sh R → is_in b (data_blocks sh R o) ≡ true → (37 ≤ b) × (b < sh.blocks)
+pub data_bound : (sh : Shape) (R : List Record) (o b : ℕ) → AreAllowed sh R → is_in b (data_blocks sh R o) ≡ true → (OWN_BLOCKS ≤ b) × (b < sh.blocks)
 data_bound sh R o b h m =
     let y = in_data sh 0 (extents_of R o) b m in
     let l = leb-true (first_block sh y.extent + sh.extent) sh.blocks ((placed sh R o h).whole y.extent y.has) in
@@ -132,13 +132,13 @@ data_length sh i (e ∷ es) =
     let m = data_length sh (suc i) es in
     omega (arith, l, k, m)
 
-pub data_few : (sh : Shape) (i : ℕ) (es : List Extent) → length es ≤ 900 → sh.extent ≤ 64 → length (data_of sh i es) ≤ 57600
+pub data_few : (sh : Shape) (i : ℕ) (es : List Extent) → length es ≤ MOST_EXTENTS → sh.extent ≤ MOST_EXTENT_BLOCKS → length (data_of sh i es) ≤ MOST_EXTENTS * MOST_EXTENT_BLOCKS
 data_few sh i es l u = le_trans (data_length sh i es) (mul-le-mul l u)
 
 -- parts of undo: each has at least 64 bytes, so that a block has at most 63
 
 abbrev IsBig : Undone → Type 0
-IsBig p = 64 ≤ p.size
+IsBig p = UNDO_PART_SIZE ≤ p.size
 
 big_undone : (w : Writer) (ps : List RowPart) → Every IsBig (undone w ps)
 big_undone w [] = tt
@@ -163,34 +163,34 @@ big_parts (r ∷ R) u = big_after (effect_of r) u (emptied_by r u (undo_parts R 
 size_more : (p : Undone) (us : List Undone) → size_of (p ∷ us) ≡ p.size + size_of us
 size_more p us = sum_by-append (λ (q : Undone). q.size) (p ∷ []) us ∙ ap (λ n. n + size_of us) (zero-add p.size)
 
-big_size : (us : List Undone) → Every IsBig us → 64 * length us ≤ size_of us
+big_size : (us : List Undone) → Every IsBig us → UNDO_PART_SIZE * length us ≤ size_of us
 big_size [] h = omega arith
 big_size (p ∷ us) h = let l = h.0 in let e = size_more p us in let k = big_size us h.1 in omega (arith, l, e, k)
 
-parts_big : (ps : List RowPart) → 64 * length ps ≤ parts_size ps
+parts_big : (ps : List RowPart) → UNDO_PART_SIZE * length ps ≤ parts_size ps
 parts_big [] = omega arith
 parts_big (p ∷ ps) = let k = parts_big ps in omega (arith, k)
 
 -- the parts of a record that fit have places below 63
-pub places_bound : (R : List Record) (u : ℕ) (ps : List RowPart) → undo_used R u + parts_size ps ≤ 4032 → length (undo_parts R u) + length ps ≤ 63
+pub places_bound : (R : List Record) (u : ℕ) (ps : List RowPart) → undo_used R u + parts_size ps ≤ BLOCK_ROOM → length (undo_parts R u) + length ps ≤ MOST_UNDO_PARTS
 places_bound R u ps l = let a = big_size (undo_parts R u) (big_parts R u) in let b = parts_big ps in omega (arith, a, b, l)
 
 -- undo blocks
 
-next_bound : (sh : Shape) (R : List Record) (u : ℕ) (o : Option ℕ) → ((v : ℕ) → o ≡ Some v → (37 ≤ v) × (v < 37 + sh.undo)) → 2 ≤ sh.undo
-    → ◌≡◌ {A = Option ℕ} (elim o [ None ↦ Some 37 | Some v ↦ find (λ b. not (has_holder R b)) (ring_after sh v) ]) (Some u) → (37 ≤ u) × (u < 37 + sh.undo)
-next_bound sh R u None w l e = let same : 37 ≡ u = (let x : ◌≡◌ {A = Option ℕ} (Some 37) (Some u) = e in cc) in (omega (arith, same), omega (arith, same, l))
+next_bound : (sh : Shape) (R : List Record) (u : ℕ) (o : Option ℕ) → ((v : ℕ) → o ≡ Some v → (OWN_BLOCKS ≤ v) × (v < OWN_BLOCKS + sh.undo)) → LEAST_UNDO_BLOCKS ≤ sh.undo
+    → ◌≡◌ {A = Option ℕ} (elim o [ None ↦ Some OWN_BLOCKS | Some v ↦ find (λ b. not (has_holder R b)) (ring_after sh v) ]) (Some u) → (OWN_BLOCKS ≤ u) × (u < OWN_BLOCKS + sh.undo)
+next_bound sh R u None w l e = let same : OWN_BLOCKS ≡ u = (let x : ◌≡◌ {A = Option ℕ} (Some OWN_BLOCKS) (Some u) = e in cc) in (omega (arith, same), omega (arith, same, l))
 next_bound sh R u (Some v) w l e =
     let f = found_in (λ b. not (has_holder R b)) (ring_after sh v) u e in
     let k = w v refl in
     let from = k.0 in
     let to = k.1 in
-    elim (in_either u (blocks_from (suc v) (36 + sh.undo - v)) (blocks_from 37 (v - 37)) f.0) [
-      | inl y ↦ let r = in_range u (suc v) (36 + sh.undo - v) y in let a = r.0 in let b = r.1 in (omega (arith, from, a), omega (arith, to, a, b))
-      | inr y ↦ let r = in_range u 37 (v - 37) y in let a = r.0 in let b = r.1 in (a, omega (arith, from, to, a, b))
+    elim (in_either u (blocks_from (suc v) (OWN_BLOCKS - 1 + sh.undo - v)) (blocks_from OWN_BLOCKS (v - OWN_BLOCKS)) f.0) [
+      | inl y ↦ let r = in_range u (suc v) (OWN_BLOCKS - 1 + sh.undo - v) y in let a = r.0 in let b = r.1 in (omega (arith, from, a), omega (arith, to, a, b))
+      | inr y ↦ let r = in_range u OWN_BLOCKS (v - OWN_BLOCKS) y in let a = r.0 in let b = r.1 in (a, omega (arith, from, to, a, b))
     ]
 
-pub current_bound : (sh : Shape) (R : List Record) (u : ℕ) → 2 ≤ sh.undo → AreAllowed sh R → current_undo R ≡ Some u → (37 ≤ u) × (u < 37 + sh.undo)
+pub current_bound : (sh : Shape) (R : List Record) (u : ℕ) → LEAST_UNDO_BLOCKS ≤ sh.undo → AreAllowed sh R → current_undo R ≡ Some u → (OWN_BLOCKS ≤ u) × (u < OWN_BLOCKS + sh.undo)
 current_bound sh [] u l h e = absurd (let x : ◌≡◌ {A = Option ℕ} None (Some u) = e in cc)
 current_bound sh (Reuse q ∷ R) u l h e =
     let same : q.block ≡ u = (let x : ◌≡◌ {A = Option ℕ} (Some q.block) (Some u) = e in cc) in
@@ -198,5 +198,5 @@ current_bound sh (Reuse q ∷ R) u l h e =
 current_bound sh (_ ∷ R) u l h e = current_bound sh R u l h.0 e
 
 -- the block that is taken into use next
-pub reuse_bound : (sh : Shape) (R : List Record) (u : ℕ) → 2 ≤ sh.undo → AreAllowed sh R → next_undo sh R ≡ Some u → (37 ≤ u) × (u < 37 + sh.undo)
+pub reuse_bound : (sh : Shape) (R : List Record) (u : ℕ) → LEAST_UNDO_BLOCKS ≤ sh.undo → AreAllowed sh R → next_undo sh R ≡ Some u → (OWN_BLOCKS ≤ u) × (u < OWN_BLOCKS + sh.undo)
 reuse_bound sh R u l h e = next_bound sh R u (current_undo R) (λ v k. current_bound sh R v l h k) l e

@@ -1,7 +1,7 @@
 -- The table of transactions in a lawful list: whose entries are taken.
 use Rattle.std.proofs.Common.{◌≡◌, ◌⊎◌, ℕ, suc, ◌<◌, ◌≤◌, Bool, true, false, cond, not, ◌||◌, eqb, List, [], ◌∷◌, Option, Some, None, refl, sym, ◌∙◌, ap, subst, arith, inl, inr, le_trans, eqb-true, ne_eqb, eq-eqb, true≢false}
 use Rattle.seg_words.proofs.Lemmas.{cond-true, cond-false, cases_Bool, eqb-false, or_cases, or_parts, or_left, or_right, and_parts, and_from, and_left, and_right}
-use Rattle.seg_words.specs.Types.{Shape}
+use Rattle.seg_words.specs.Types.{Shape, TXN_ENTRIES}
 use Rattle.redo_model.specs.Records.{Record, Begin, Commit, Ended, Move, BeginRecord, CommitRecord, EndedRecord}
 use Rattle.redo_model.specs.Model.{commit_count, txn_count, is_active, has_begun, commit_number, has_rolled_back, control_number, entry_of, user_of, is_entry, is_forgotten, EntryState, state_of_user, state_when_over, entry_state, TakesEntry, BeginAllowed, CommitAllowed, IsKindAllowed, AreAllowed}
 use Rattle.redo_model.specs.AllowedTransactions.{Unused, InUse, Committed, RolledBack, takes_unused, takes_rolled_back, takes_committed}
@@ -10,7 +10,7 @@ use Rattle.redo_laws.specs.Forgotten.{ForgottenHavePassed}
 pub record TxnTable (R : List Record) : Type 0 where
   pub most : (t : ℕ) → has_begun R t ≡ true → t ≤ txn_count R
   pub begun : (t : ℕ) → is_active R t ≡ true → has_begun R t ≡ true
-  pub entered : (t : ℕ) → has_begun R t ≡ true → (i : ℕ) × (entry_of R t ≡ Some i) × (i < 96)
+  pub entered : (t : ℕ) → has_begun R t ≡ true → (i : ℕ) × (entry_of R t ≡ Some i) × (i < TXN_ENTRIES)
   pub entry_begun : (t i : ℕ) → entry_of R t ≡ Some i → has_begun R t ≡ true
   pub forgotten_begun : (t : ℕ) → is_forgotten R t ≡ true → has_begun R t ≡ true
   pub user : (t i : ℕ) → entry_of R t ≡ Some i → is_forgotten R t ≡ false → user_of R i ≡ Some t
@@ -105,7 +105,7 @@ rises R i control h (takes_committed a) = go (user_of R i) refl
           below = λ t c j f g k.
               let w = h.entered t (h.entry_begun t j f) in
               let same : w.0 ≡ j = same_some w.0 j (sym w.1 ∙ f) in
-              a.least j c (subst (λ x. x < 96) same w.2) (least_of_all R t c j control h (h.user t j f g) k);
+              a.least j c (subst (λ x. x < TXN_ENTRIES) same w.2) (least_of_all R t c j control h (h.user t j f g) k);
         }
 
 begin_table : (R : List Record) (g : BeginRecord) → BeginAllowed R g → TxnTable R → TxnTable (Begin g ∷ R)
@@ -169,7 +169,7 @@ begin_table R g a h =
     or_off : (x y : Bool) → x ≡ false → y ≡ false → (x || y) ≡ false
     or_off x y p q = rw (p, q) refl
 
-    taken_within : TakesEntry R g.entry g.control → g.entry < 96
+    taken_within : TakesEntry R g.entry g.control → g.entry < TXN_ENTRIES
     taken_within (takes_unused x) = x.within
     taken_within (takes_rolled_back x) = x.within
     taken_within (takes_committed x) = x.within

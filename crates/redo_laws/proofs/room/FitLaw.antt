@@ -1,7 +1,7 @@
 -- What an allowed record states can be put into its blocks.
 use Rattle.std.proofs.Common.{◌≡◌, ◌⊎◌, ℕ, zero, suc, ◌<◌, ◌≤◌, true, false, cond, leb, List, [], ◌∷◌, length, Option, Some, None, refl, sym, ◌∙◌, ap, subst, arith, inl, inr, leb-true, leb-false}
 use Rattle.seg_words.proofs.Lemmas.{cases_Bool, cases_order}
-use Rattle.seg_words.specs.Types.{Shape, Slot, Writer, By, At, row_size}
+use Rattle.seg_words.specs.Types.{Shape, Slot, Writer, By, At, row_size, BLOCK_ROOM, LONGEST_ROW, MOST_SLOTS, MOST_LIST_ENTRIES}
 use Rattle.redo_model.specs.Records.{Record, RowPart, BackRecord}
 use Rattle.redo_model.specs.Model.{Step, Effect, effect_of, txn_count, is_active, ended_in, is_by, standing_steps, standing, newest_of, image, without, makers, taken_back, AreAllowed, slot_count, entry_count, block_of}
 use Rattle.redo_model.specs.Effects.{Still, Formats, Adds, TakesBack, Cleans}
@@ -39,7 +39,7 @@ slot_within R b k r = elim (cases_Bool (leb (slot_count R b) k)) [
 -- the slot of a part
 record SlotFits (R : List Record) (p : RowPart) : Type 0 where
   there : p.slot ≤ slot_count R p.dba
-  few : p.slot < 100
+  few : p.slot < MOST_SLOTS
 
 quiet_slot : (R : List Record) (p : RowPart) → ((b : ℕ) → RoomIn R b) → Quiet R p → SlotFits R p
 quiet_slot R p r q = record { there = (let l = q.there in omega arith); few = (let l = q.there in let m = (r p.dba).slots in omega arith) }
@@ -62,23 +62,23 @@ slots_fit R st r x = elim x.rooms [
 some_entry : (a e : ℕ) → ◌≡◌ {A = Option ℕ} (Some a) (Some e) → a ≡ e
 some_entry a e x = cc
 
-entry_fits : (R : List Record) (t : ℕ) (p : RowPart) → RoomIn R p.dba → EntersAt R t p → (e : ℕ) → p.entry ≡ Some e → (e ≤ entry_count R p.dba) × (e < 8)
+entry_fits : (R : List Record) (t : ℕ) (p : RowPart) → RoomIn R p.dba → EntersAt R t p → (e : ℕ) → p.entry ≡ Some e → (e ≤ entry_count R p.dba) × (e < MOST_LIST_ENTRIES)
 entry_fits R t p r x e f =
     let same : x.entry ≡ e = some_entry x.entry e (sym x.entry_is ∙ f) in
-    let w = entry_for-within (ended_in R) (block_of R p.dba) t x.entry (subst (λ n. n ≤ 8) (sym (entry_count_is R p.dba)) r.entries_to) x.for_it in
-    (subst (λ n. n ≤ entry_count R p.dba) same (subst (λ n. x.entry ≤ n) (entry_count_is R p.dba) w.0), subst (λ n. n < 8) same w.1)
+    let w = entry_for-within (ended_in R) (block_of R p.dba) t x.entry (subst (λ n. n ≤ MOST_LIST_ENTRIES) (sym (entry_count_is R p.dba)) r.entries_to) x.for_it in
+    (subst (λ n. n ≤ entry_count R p.dba) same (subst (λ n. x.entry ≤ n) (entry_count_is R p.dba) w.0), subst (λ n. n < MOST_LIST_ENTRIES) same w.1)
 
 abbrev EntryFits : List Record → RowPart → Type 0
-EntryFits R p = (e : ℕ) → p.entry ≡ Some e → (e ≤ entry_count R p.dba) × (e < 8)
+EntryFits R p = (e : ℕ) → p.entry ≡ Some e → (e ≤ entry_count R p.dba) × (e < MOST_LIST_ENTRIES)
 
 entries_fit : (R : List Record) (w : Writer) (ps : List RowPart) → ((b : ℕ) → RoomIn R b) → Enter R w ps → Every (EntryFits R) ps
 entries_fit R (By t) ps r h = every-map _ _ ps (λ p x. entry_fits R t p (r p.dba) x) h
 entries_fit R (At m) ps r h = every-map _ _ ps (λ p n e f. absurd (let x : ◌≡◌ {A = Option ℕ} None (Some e) = sym n ∙ f in cc)) h
 
-room_fits : (R : List Record) (st : Step) (i : ℕ) (p : RowPart) → RoomIn R p.dba → Puts R st i p → length p.new.bytes ≤ 1800 → p.old ≡ image R p.dba p.slot → p.new.room ≤ 4032
+room_fits : (R : List Record) (st : Step) (i : ℕ) (p : RowPart) → RoomIn R p.dba → Puts R st i p → length p.new.bytes ≤ LONGEST_ROW → p.old ≡ image R p.dba p.slot → p.new.room ≤ BLOCK_ROOM
 room_fits R st i p r pu l o = go st.by refl
   where
-    go : (w : Writer) → st.by ≡ w → p.new.room ≤ 4032
+    go : (w : Writer) → st.by ≡ w → p.new.room ≤ BLOCK_ROOM
     go (By u) e = (let a = pu.room u e in let s = slot_within R p.dba p.slot r in let q : row_size (ended_in R) p.old ≡ row_size (ended_in R) (image R p.dba p.slot) = ap (row_size (ended_in R)) o in omega arith)
     go (At m) e = (let a = pu.room_at m e in omega arith)
 
@@ -94,11 +94,11 @@ parts_fit R st i (p ∷ ps) s pu sh o sl en =
 -- the old images of standing steps are short
 
 abbrev OldShort : Step → Type 0
-OldShort st = Every (λ (p : RowPart). length p.old.bytes ≤ 1800) st.parts
+OldShort st = Every (λ (p : RowPart). length p.old.bytes ≤ LONGEST_ROW) st.parts
 
-olds_short : (R : List Record) (ps : List RowPart) → ShortIn R → StatesOld R ps → Every (λ (p : RowPart). length p.old.bytes ≤ 1800) ps
+olds_short : (R : List Record) (ps : List RowPart) → ShortIn R → StatesOld R ps → Every (λ (p : RowPart). length p.old.bytes ≤ LONGEST_ROW) ps
 olds_short R [] s o = tt
-olds_short R (p ∷ ps) s o = (subst (λ (i : Slot). length i.bytes ≤ 1800) (sym o.0) (s p.dba p.slot).0, olds_short R ps s o.1)
+olds_short R (p ∷ ps) s o = (subst (λ (i : Slot). length i.bytes ≤ LONGEST_ROW) (sym o.0) (s p.dba p.slot).0, olds_short R ps s o.1)
 
 steps_effect : (R : List Record) (ef : Effect) → NeedsMet R ef → ShortIn R → Every OldShort (standing R) → Every OldShort (standing_steps ef (standing R))
 steps_effect R Still f s h = h
@@ -119,7 +119,7 @@ newest_short (s ∷ ss) u st e h =
       | false ↦ λ f. newest_short ss u st f h.1
     ]) e
 
-back_parts : (R : List Record) (ps : List RowPart) → ((b : ℕ) → RoomIn R b) → Every (λ (p : RowPart). p.slot < slot_count R p.dba) ps → Every (λ (p : RowPart). length p.old.bytes ≤ 1800) ps → EachBackFits R (taken_back ps)
+back_parts : (R : List Record) (ps : List RowPart) → ((b : ℕ) → RoomIn R b) → Every (λ (p : RowPart). p.slot < slot_count R p.dba) ps → Every (λ (p : RowPart). length p.old.bytes ≤ LONGEST_ROW) ps → EachBackFits R (taken_back ps)
 back_parts R [] r l s = tt
 back_parts R (p ∷ ps) r l s = (record { there = l.0; few = (let a = l.0 in let m = (r p.dba).slots in omega arith); bytes = s.0 }, back_parts R ps r l.1 s.1)
 

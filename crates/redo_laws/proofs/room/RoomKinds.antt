@@ -1,7 +1,7 @@
 -- The room that each kind of row record and Move takes in its blocks.
 use Rattle.std.proofs.Common.{◌≡◌, ◌⊎◌, ℕ, ◌<◌, ◌≤◌, true, false, ◌&&◌, leb, List, [], length, take, Some, None, find, refl, sym, ◌∙◌, ap, subst, arith, inl, inr, le_refl, true≢false, leb-true, leb-false}
 use Rattle.seg_words.proofs.Lemmas.{cond-true, cases_Bool, and_parts}
-use Rattle.seg_words.specs.Types.{Shape, Kind, Empty, Row, Head, Body, Slot, Writer, By, At, is_empty, writer_has_ended, Taker, Open, Shrink, row_size, entry_for, takes, fits}
+use Rattle.seg_words.specs.Types.{Shape, Kind, Empty, Row, Head, Body, Slot, Writer, By, At, is_empty, writer_has_ended, Taker, Open, Shrink, row_size, entry_for, takes, fits, LONGEST_ROW}
 use Rattle.redo_model.specs.Records.{Record, RowPart, RowBody, MoveRecord, Insert, Update, Migrate, Return, Delete, Move}
 use Rattle.redo_model.specs.Model.{Step, Effect, effect_of, row_step, move_step, ended_in, holds_row, image, IsKindAllowed, slot_count, block_of, takes_row, data_blocks, is_formatted, position, pctfree_of, nothing, plain_row, head_to, body_of, with_bytes, at_place, txn_part, next_slot, InsertAllowed, UpdateAllowed, MigratePlain, MigrateAgain, MigrateAllowed, ReturnAllowed, DeletePlain, DeleteMigrated, DeleteAllowed, move_part, MovePlain, MoveToBody, MoveMigrated, MoveAllowed}
 use Rattle.redo_model.specs.Effects.{Adds}
@@ -48,7 +48,7 @@ pub record EntersAt (R : List Record) (t : ℕ) (p : RowPart) : Type 0 where
 
 -- a row of at most 1,800 bytes, or one that stood in a slot
 abbrev pub IsShort : List Record → RowPart → Type 0
-IsShort R p = (length p.new.bytes ≤ 1800) ⊎ ((b : ℕ) × (k : ℕ) × (p.new.bytes ≡ (image R b k).bytes))
+IsShort R p = (length p.new.bytes ≤ LONGEST_ROW) ⊎ ((b : ℕ) × (k : ℕ) × (p.new.bytes ≡ (image R b k).bytes))
 
 abbrev pub Enter : List Record → Writer → List RowPart → Type 0
 Enter R (By t) ps = Every (EntersAt R t) ps
@@ -70,7 +70,7 @@ quiet_empty : (R : List Record) (b k : ℕ) (p : RowPart) → is_empty (image R 
 quiet_empty R b k p e d s n = record { there = subst (λ x. p.slot < slot_count R x) (sym d) (subst (λ x. x < slot_count R b) (sym s) (there R b k e)); less = subst (λ (x : List ℕ). length x ≤ row_size (ended_in R) p.old) (sym n) (omega arith) }
 
 zero_short : (R : List Record) (p : RowPart) → p.new.bytes ≡ [] → IsShort R p
-zero_short R p e = inl (subst (λ (x : List ℕ). length x ≤ 1800) (sym e) (omega arith))
+zero_short R p e = inl (subst (λ (x : List ℕ). length x ≤ LONGEST_ROW) (sym e) (omega arith))
 
 -- the pieces of each kind
 

@@ -1,7 +1,7 @@
 -- What the blocks of a lawful list count fits in them.
 use Rattle.std.proofs.Common.{◌≡◌, ◌⊎◌, ℕ, zero, suc, ◌+◌, ◌-◌, ◌*◌, ◌<◌, ◌≤◌, max, Bool, true, false, cond, not, ◌&&◌, ◌||◌, eqb, ltb, leb, List, [], ◌∷◌, length, get_or, Option, Some, None, refl, sym, ◌∙◌, ap, ap₂, subst, arith, inl, inr, le_refl, eqb-true, true≢false, eq-eqb, le-ltb, leb-true, leb-false, ltb-true, ltb-false, sum_by, option_map}
 use Rattle.seg_words.proofs.Lemmas.{eqb-false, cond-true, cond-false, cases_Bool, and_parts, and_from, or_left, or_right, not-false, cases_order}
-use Rattle.seg_words.specs.Types.{Shape, Slot, Writer, By, At, new_slot, writer_has_ended, number_of, number_of_writer, as_told, clean_slot, Open, Block, row_size, slot_size, used_of as used_by, free_of as free_by, slot_to_use, slot_need, entry_for, entry_need, entry_size, fits_beside, row_growth}
+use Rattle.seg_words.specs.Types.{Shape, Slot, Writer, By, At, new_slot, writer_has_ended, number_of, number_of_writer, as_told, clean_slot, Open, Block, row_size, slot_size, used_of as used_by, free_of as free_by, slot_to_use, slot_need, entry_for, entry_need, entry_size, fits_beside, row_growth, BLOCK_ROOM, LONGEST_ROW, SLOT_SIZE, MOST_SLOTS, LIST_ENTRY_SIZE, LEAST_LIST_ENTRIES, MOST_LIST_ENTRIES}
 use Rattle.redo_model.specs.Records.{Record, RowPart, BackRecord, Insert, Update, Migrate, Return, Delete, Move}
 use Rattle.redo_model.specs.Model.{Step, Effect, effect_of, Placed, written, restored, part_addr, txn_count, is_active, ended_in, standing, is_place, placed_in, changed_image, image, Made, made_by, without, changed_makers, makers, taken_back, IsKindAllowed, AreAllowed, slots_reached, changed_slot_count, slot_count, reach_entry, entries_reached, count_entered, changed_entry_count, entry_count, block_of, slots_of}
 use Rattle.redo_model.specs.Effects.{Still, Formats, Adds, TakesBack, Cleans}
@@ -27,29 +27,29 @@ use Rattle.redo_laws.proofs.lists.Sums.{sum_below, sum_less, sum_more, sum_one, 
 
 -- what the slots count, by who has ended
 abbrev pub size_at : (ℕ → Bool) → (ℕ → Slot) → ℕ → ℕ
-size_at ended im k = 40 + row_size ended (im k)
+size_at ended im k = SLOT_SIZE + row_size ended (im k)
 
 -- the count of a block as a sum over its places
-pub used_is : (ended : ℕ → Bool) (R : List Record) (b : ℕ) → used_by ended (block_of R b) ≡ sum_below (slot_count R b) (size_at ended (image R b)) + 24 * (entry_count R b - 2)
+pub used_is : (ended : ℕ → Bool) (R : List Record) (b : ℕ) → used_by ended (block_of R b) ≡ sum_below (slot_count R b) (size_at ended (image R b)) + LIST_ENTRY_SIZE * (entry_count R b - LEAST_LIST_ENTRIES)
 used_is ended R b =
     let slots : sum_by (slot_size ended) (slots_of R b) ≡ sum_below (slot_count R b) (size_at ended (image R b)) =
     sum_places (slot_size ended) new_slot (slots_of R b) ∙ ap (λ n. sum_below n (λ k. slot_size ended (get_or (slots_of R b) k new_slot))) (count_is R b)
     ∙ sum_same (slot_count R b) (λ k. slot_size ended (get_or (slots_of R b) k new_slot)) (size_at ended (image R b)) (λ k. ap (slot_size ended) (image_is R b k)) in
-    ap₂ (λ x y. x + 24 * (y - 2)) slots (entry_count_is R b)
+    ap₂ (λ x y. x + LIST_ENTRY_SIZE * (y - LEAST_LIST_ENTRIES)) slots (entry_count_is R b)
 
-pub page_is : (R : List Record) (b : ℕ) → page_size R b ≡ sum_below (slot_count R b) (λ k. 40 + length (image R b k).bytes) + 24 * (entry_count R b - 2)
+pub page_is : (R : List Record) (b : ℕ) → page_size R b ≡ sum_below (slot_count R b) (λ k. SLOT_SIZE + length (image R b k).bytes) + LIST_ENTRY_SIZE * (entry_count R b - LEAST_LIST_ENTRIES)
 page_is R b =
-    let slots : sum_by (λ (s : Slot). 40 + length s.bytes) (slots_of R b) ≡ sum_below (slot_count R b) (λ k. 40 + length (image R b k).bytes) =
-    sum_places (λ (s : Slot). 40 + length s.bytes) new_slot (slots_of R b) ∙ ap (λ n. sum_below n (λ k. 40 + length (get_or (slots_of R b) k new_slot).bytes)) (count_is R b)
-    ∙ sum_same (slot_count R b) (λ k. 40 + length (get_or (slots_of R b) k new_slot).bytes) (λ k. 40 + length (image R b k).bytes) (λ k. ap (λ (s : Slot). 40 + length s.bytes) (image_is R b k)) in
-    ap₂ (λ x y. x + 24 * (y - 2)) slots (entry_count_is R b)
+    let slots : sum_by (λ (s : Slot). SLOT_SIZE + length s.bytes) (slots_of R b) ≡ sum_below (slot_count R b) (λ k. SLOT_SIZE + length (image R b k).bytes) =
+    sum_places (λ (s : Slot). SLOT_SIZE + length s.bytes) new_slot (slots_of R b) ∙ ap (λ n. sum_below n (λ k. SLOT_SIZE + length (get_or (slots_of R b) k new_slot).bytes)) (count_is R b)
+    ∙ sum_same (slot_count R b) (λ k. SLOT_SIZE + length (get_or (slots_of R b) k new_slot).bytes) (λ k. SLOT_SIZE + length (image R b k).bytes) (λ k. ap (λ (s : Slot). SLOT_SIZE + length s.bytes) (image_is R b k)) in
+    ap₂ (λ x y. x + LIST_ENTRY_SIZE * (y - LEAST_LIST_ENTRIES)) slots (entry_count_is R b)
 
 -- of a block with n slots, these images and m list entries
 pub record Room (ended : ℕ → Bool) (n m : ℕ) (im : ℕ → Slot) : Type 0 where
-  pub used : sum_below n (size_at ended im) + 24 * (m - 2) ≤ 4032
-  pub entries_from : 2 ≤ m
-  pub entries_to : m ≤ 8
-  pub slots : n ≤ 100
+  pub used : sum_below n (size_at ended im) + LIST_ENTRY_SIZE * (m - LEAST_LIST_ENTRIES) ≤ BLOCK_ROOM
+  pub entries_from : LEAST_LIST_ENTRIES ≤ m
+  pub entries_to : m ≤ MOST_LIST_ENTRIES
+  pub slots : n ≤ MOST_SLOTS
 
 abbrev pub RoomIn : List Record → ℕ → Type 0
 RoomIn R b = Room (ended_in R) (slot_count R b) (entry_count R b) (image R b)
@@ -105,7 +105,7 @@ room_turn R r n m ss im mk t l h = room_less (ended_in R) (ended_in (r ∷ R)) n
 
 -- a formatting, a cleaning
 
-pub room_formats : (e : ℕ → Bool) (im : ℕ → Slot) → Room e 0 2 im
+pub room_formats : (e : ℕ → Bool) (im : ℕ → Slot) → Room e 0 LEAST_LIST_ENTRIES im
 room_formats e im = record { used = omega arith; entries_from = omega arith; entries_to = omega arith; slots = omega arith }
 
 told_size : (e : ℕ → Bool) (i : Slot) (o : Option ℕ) → (o ≡ None → ⊥) → writer_has_ended e i.writer ≡ true → row_size e (as_told i o) ≤ row_size e i
@@ -282,10 +282,10 @@ grown_size R st g live pu o q =
 
 -- list entries: none more, or the one that the block gives the transaction
 record EntryCost (R : List Record) (w : Writer) (b n m : ℕ) : Type 0 where
-  most : m ≤ 8
+  most : m ≤ MOST_LIST_ENTRIES
   cost : (m ≡ n) ⊎ ((t : ℕ) × (w ≡ By t) × (entry_for (ended_in R) (block_of R b) t ≡ Some n) × (m ≡ suc n))
 
-entries_cost : (R : List Record) (t b : ℕ) (ps : List RowPart) → Every (EntersAt R t) ps → entry_count R b ≤ 8 → EntryCost R (By t) b (entry_count R b) (entries_reached ps b (entry_count R b))
+entries_cost : (R : List Record) (t b : ℕ) (ps : List RowPart) → Every (EntersAt R t) ps → entry_count R b ≤ MOST_LIST_ENTRIES → EntryCost R (By t) b (entry_count R b) (entries_reached ps b (entry_count R b))
 entries_cost R t b [] h l = record { most = l; cost = inl refl }
 entries_cost R t b (p ∷ ps) h l =
     let rest = entries_cost R t b ps h.1 l in
@@ -296,9 +296,9 @@ entries_cost R t b (p ∷ ps) h l =
           let for_it : entry_for (ended_in R) (block_of R b) t ≡ Some e = subst (λ x. entry_for (ended_in R) (block_of R x) t ≡ Some e) (eqb-true p.dba b y) h.0.for_it in
           let n = entry_count R b in
           let x = entries_reached ps b n in
-          let w = entry_for-within (ended_in R) (block_of R b) t e (subst (λ z. z ≤ 8) (sym (entry_count_is R b)) l) for_it in
+          let w = entry_for-within (ended_in R) (block_of R b) t e (subst (λ z. z ≤ MOST_LIST_ENTRIES) (sym (entry_count_is R b)) l) for_it in
           let within : e ≤ n = subst (λ z. e ≤ z) (entry_count_is R b) w.0 in
-          let small : e < 8 = w.1 in
+          let small : e < MOST_LIST_ENTRIES = w.1 in
           subst (λ o. EntryCost R (By t) b n (reach_entry o x)) (sym h.0.entry_is) (record {
             most = (let a = rest.most in omega arith);
             cost = elim (cases_order e n) [
@@ -314,18 +314,18 @@ entries_cost R t b (p ∷ ps) h l =
           })
     ]) refl
 
-cost_of : (R : List Record) (w : Writer) (b : ℕ) (ps : List RowPart) → Enter R w ps → entry_count R b ≤ 8 → EntryCost R w b (entry_count R b) (count_entered w ps b (entry_count R b))
+cost_of : (R : List Record) (w : Writer) (b : ℕ) (ps : List RowPart) → Enter R w ps → entry_count R b ≤ MOST_LIST_ENTRIES → EntryCost R w b (entry_count R b) (count_entered w ps b (entry_count R b))
 cost_of R (By t) b ps h l = entries_cost R t b ps h l
 cost_of R (At m) b ps h l = record { most = l; cost = inl refl }
 
 -- a new entry has 24 bytes
-chosen_free : (p q n room : ℕ) → cond (ltb p n) (Some p) (cond (ltb q n) (Some q) (cond (ltb n 8 && leb 24 room) (Some n) None)) ≡ Some n → 24 ≤ room
+chosen_free : (p q n room : ℕ) → cond (ltb p n) (Some p) (cond (ltb q n) (Some q) (cond (ltb n MOST_LIST_ENTRIES && leb LIST_ENTRY_SIZE room) (Some n) None)) ≡ Some n → LIST_ENTRY_SIZE ≤ room
 chosen_free p q n room e = elim (cases_Bool (ltb p n)) [
   | inl y ↦ (let k : p ≡ n = same p n (sym (cond-true _ _ _ y) ∙ e) in let l : p < n = ltb-true p n y in absurd (omega arith))
   | inr f ↦ elim (cases_Bool (ltb q n)) [
     | inl y ↦ (let k : q ≡ n = same q n (sym (cond-true _ _ _ y) ∙ sym (cond-false _ _ _ f) ∙ e) in let l : q < n = ltb-true q n y in absurd (omega arith))
-    | inr g ↦ elim (cases_Bool (ltb n 8 && leb 24 room)) [
-      | inl y ↦ leb-true 24 room (and_parts (ltb n 8) (leb 24 room) y).1
+    | inr g ↦ elim (cases_Bool (ltb n MOST_LIST_ENTRIES && leb LIST_ENTRY_SIZE room)) [
+      | inl y ↦ leb-true LIST_ENTRY_SIZE room (and_parts (ltb n MOST_LIST_ENTRIES) (leb LIST_ENTRY_SIZE room) y).1
       | inr z ↦ absurd (let x : ◌≡◌ {A = Option ℕ} None (Some n) = sym (cond-false _ _ _ z) ∙ sym (cond-false _ _ _ g) ∙ sym (cond-false _ _ _ f) ∙ e in cc)
     ]
   ]
@@ -334,14 +334,14 @@ chosen_free p q n room e = elim (cases_Bool (ltb p n)) [
     same : (a b : ℕ) → ◌≡◌ {A = Option ℕ} (Some a) (Some b) → a ≡ b
     same a b e = cc
 
-entry_free : (e : ℕ → Bool) (b : Block) (t n : ℕ) → length b.entries ≡ n → entry_for e b t ≡ Some n → 24 ≤ free_by e b
+entry_free : (e : ℕ → Bool) (b : Block) (t n : ℕ) → length b.entries ≡ n → entry_for e b t ≡ Some n → LIST_ENTRY_SIZE ≤ free_by e b
 entry_free e b t n l h = chosen_free _ _ (length b.entries) (free_by e b) (h ∙ ap Some (sym l))
 
 -- what is free beside what is counted
-free_is : (R : List Record) (b x : ℕ) → RoomIn R b → x ≤ free_by (ended_in R) (block_of R b) → sum_below (slot_count R b) (size_at (ended_in R) (image R b)) + 24 * (entry_count R b - 2) + x ≤ 4032
+free_is : (R : List Record) (b x : ℕ) → RoomIn R b → x ≤ free_by (ended_in R) (block_of R b) → sum_below (slot_count R b) (size_at (ended_in R) (image R b)) + LIST_ENTRY_SIZE * (entry_count R b - LEAST_LIST_ENTRIES) + x ≤ BLOCK_ROOM
 free_is R b x r l = (let e = used_is (ended_in R) R b in let u = r.used in omega arith)
 
-new_is_24 : (e : ℕ → Bool) (b : Block) (o : Option ℕ) (n x : ℕ) → option_map (entry_size b) o ≡ Some x → o ≡ Some n → length b.entries ≡ n → x ≡ 24
+new_is_24 : (e : ℕ → Bool) (b : Block) (o : Option ℕ) (n x : ℕ) → option_map (entry_size b) o ≡ Some x → o ≡ Some n → length b.entries ≡ n → x ≡ LIST_ENTRY_SIZE
 new_is_24 e b o n x h f l = let s : entry_size b n ≡ x = same _ _ (ap (option_map (entry_size b)) (sym f) ∙ h) in sym s ∙ cond-false _ _ _ (le-ltb n (length b.entries) (omega arith))
   where
     same : (a c : ℕ) → ◌≡◌ {A = Option ℕ} (Some a) (Some c) → a ≡ c
@@ -349,14 +349,14 @@ new_is_24 e b o n x h f l = let s : entry_size b n ≡ x = same _ _ (ap (option_
 
 -- the entries' cost beside something that is free
 cost_fits : (R : List Record) (st : Step) (b x y : ℕ) → RoomIn R b → EntryCost R st.by b (entry_count R b) (count_entered st.by st.parts b (entry_count R b))
-    → ((t : ℕ) → st.by ≡ By t → entry_for (ended_in R) (block_of R b) t ≡ Some (entry_count R b) → x + 24 ≤ free_by (ended_in R) (block_of R b)) → x ≤ free_by (ended_in R) (block_of R b)
-    → y ≤ sum_below (slot_count R b) (size_at (ended_in R) (image R b)) + x → y + 24 * (count_entered st.by st.parts b (entry_count R b) - 2) ≤ 4032
+    → ((t : ℕ) → st.by ≡ By t → entry_for (ended_in R) (block_of R b) t ≡ Some (entry_count R b) → x + LIST_ENTRY_SIZE ≤ free_by (ended_in R) (block_of R b)) → x ≤ free_by (ended_in R) (block_of R b)
+    → y ≤ sum_below (slot_count R b) (size_at (ended_in R) (image R b)) + x → y + LIST_ENTRY_SIZE * (count_entered st.by st.parts b (entry_count R b) - LEAST_LIST_ENTRIES) ≤ BLOCK_ROOM
 cost_fits R st b x y r c new free l = elim c.cost [
   | inl e ↦ (let f = free_is R b x r free in let z : count_entered st.by st.parts b (entry_count R b) ≡ entry_count R b = e in omega arith)
-  | inr e ↦ (let f = free_is R b (x + 24) r (new e.0 e.1 e.2) in let z : count_entered st.by st.parts b (entry_count R b) ≡ suc (entry_count R b) = e.3 in let m = r.entries_from in omega arith)
+  | inr e ↦ (let f = free_is R b (x + LIST_ENTRY_SIZE) r (new e.0 e.1 e.2) in let z : count_entered st.by st.parts b (entry_count R b) ≡ suc (entry_count R b) = e.3 in let m = r.entries_from in omega arith)
 ]
 
-entries_more : (R : List Record) (st : Step) (b : ℕ) → RoomIn R b → EntryCost R st.by b (entry_count R b) (count_entered st.by st.parts b (entry_count R b)) → 2 ≤ count_entered st.by st.parts b (entry_count R b)
+entries_more : (R : List Record) (st : Step) (b : ℕ) → RoomIn R b → EntryCost R st.by b (entry_count R b) (count_entered st.by st.parts b (entry_count R b)) → LEAST_LIST_ENTRIES ≤ count_entered st.by st.parts b (entry_count R b)
 entries_more R st b r c = elim c.cost [ inl e ↦ (let m = r.entries_from in omega arith) | inr e ↦ (let z = e.3 in let m = r.entries_from in omega arith) ]
 
 abbrev pub RoomAfter : List Record → Step → ℕ → Type 0
@@ -380,7 +380,7 @@ quiet_room R st b r c l h =
 grown_room : (R : List Record) (st : Step) (b j x : ℕ) → RoomIn R b → EntryCost R st.by b (entry_count R b) (count_entered st.by st.parts b (entry_count R b))
     → slots_reached (written st.parts) b (slot_count R b) ≤ slot_count R b → j < slot_count R b → row_size (ended_in R) (after R st b j) ≤ row_size (ended_in R) (image R b j) + x
     → ((k : ℕ) → (k ≡ j → ⊥) → row_size (ended_in R) (after R st b k) ≤ row_size (ended_in R) (image R b k))
-    → ((t : ℕ) → st.by ≡ By t → entry_for (ended_in R) (block_of R b) t ≡ Some (entry_count R b) → x + 24 ≤ free_by (ended_in R) (block_of R b)) → x ≤ free_by (ended_in R) (block_of R b) → RoomAfter R st b
+    → ((t : ℕ) → st.by ≡ By t → entry_for (ended_in R) (block_of R b) t ≡ Some (entry_count R b) → x + LIST_ENTRY_SIZE ≤ free_by (ended_in R) (block_of R b)) → x ≤ free_by (ended_in R) (block_of R b) → RoomAfter R st b
 grown_room R st b j x r c l there g h new free =
     let n = slot_count R b in
     let a = sum_more (slots_reached (written st.parts) b n) n (size_at (ended_in R) (after R st b)) l in
@@ -394,9 +394,9 @@ grown_room R st b j x r c l there g h new free =
 
 -- and where it is a new one
 made_room : (R : List Record) (st : Step) (b x : ℕ) → RoomIn R b → EntryCost R st.by b (entry_count R b) (count_entered st.by st.parts b (entry_count R b))
-    → slots_reached (written st.parts) b (slot_count R b) ≤ suc (slot_count R b) → slot_count R b < 100 → row_size (ended_in R) (after R st b (slot_count R b)) + 40 ≤ x
+    → slots_reached (written st.parts) b (slot_count R b) ≤ suc (slot_count R b) → slot_count R b < MOST_SLOTS → row_size (ended_in R) (after R st b (slot_count R b)) + SLOT_SIZE ≤ x
     → ((k : ℕ) → (k ≡ slot_count R b → ⊥) → row_size (ended_in R) (after R st b k) ≤ row_size (ended_in R) (image R b k))
-    → ((t : ℕ) → st.by ≡ By t → entry_for (ended_in R) (block_of R b) t ≡ Some (entry_count R b) → x + 24 ≤ free_by (ended_in R) (block_of R b)) → x ≤ free_by (ended_in R) (block_of R b) → RoomAfter R st b
+    → ((t : ℕ) → st.by ≡ By t → entry_for (ended_in R) (block_of R b) t ≡ Some (entry_count R b) → x + LIST_ENTRY_SIZE ≤ free_by (ended_in R) (block_of R b)) → x ≤ free_by (ended_in R) (block_of R b) → RoomAfter R st b
 made_room R st b x r c l few g h new free =
     let n = slot_count R b in
     let a = sum_more (slots_reached (written st.parts) b n) (suc n) (size_at (ended_in R) (after R st b)) l in
@@ -431,7 +431,7 @@ fitted_room R st g r live pu o q en f =
     f.there (let a = grown_size R st g live pu o q in omega arith)
     (λ k ne. others_quiet R st b k g live pu o q (λ d e. ne (sym e)))
     (λ t e h. let same : f.txn ≡ t = same_txn f.txn t (sym f.whose ∙ e) in
-    let z : w.0 ≡ 24 = new_is_24 (ended_in R) (block_of R b) (entry_for (ended_in R) (block_of R b) f.txn) (entry_count R b) w.0 w.1 (ap (entry_for (ended_in R) (block_of R b)) same ∙ h) (entry_count_is R b) in omega arith)
+    let z : w.0 ≡ LIST_ENTRY_SIZE = new_is_24 (ended_in R) (block_of R b) (entry_for (ended_in R) (block_of R b) f.txn) (entry_count R b) w.0 w.1 (ap (entry_for (ended_in R) (block_of R b)) same ∙ h) (entry_count_is R b) in omega arith)
     (omega arith)
   where
     slot_in : (p : RowPart) → Quiet R p ⊎ (p ≡ g) → p.dba ≡ g.dba → p.slot < slot_count R g.dba
@@ -449,7 +449,7 @@ taken_room R st g r live pu o q en f =
     let w = takes_is (ended_in R) f.pctfree blk len f.taker f.takes_it in
     let count : length (slots_of R b) ≡ n = count_is R b in
     let grown = grown_size R st g live pu o q in
-    let new24 : (t : ℕ) → st.by ≡ By t → entry_for (ended_in R) blk t ≡ Some (entry_count R b) → w.entry ≡ 24 = λ t e h. entry_new t e h in
+    let new24 : (t : ℕ) → st.by ≡ By t → entry_for (ended_in R) blk t ≡ Some (entry_count R b) → w.entry ≡ LIST_ENTRY_SIZE = λ t e h. entry_new t e h in
     elim (cases_Bool (ltb (slot_to_use (ended_in R) blk) (length (slots_of R b)))) [
       | inl y ↦
           let need : slot_need (ended_in R) blk ≡ 0 = cond-true _ _ _ y in
@@ -459,11 +459,11 @@ taken_room R st g r live pu o q en f =
           inside (omega arith) (λ k ne. others_quiet R st b k g live pu o q (λ d e. ne (sym e)))
           (λ t e h. let z = new24 t e h in let m = w.room in omega arith) (let m = w.room in omega arith)
       | inr z ↦
-          let need : slot_need (ended_in R) blk ≡ 40 = cond-false _ _ _ z in
+          let need : slot_need (ended_in R) blk ≡ SLOT_SIZE = cond-false _ _ _ z in
           let at : g.slot ≡ n = (let a : length (slots_of R b) ≤ slot_to_use (ended_in R) blk = ltb-false _ _ z in let l : slot_to_use (ended_in R) blk ≤ length (slots_of R b) = slot_to_use-le-length (ended_in R) blk in let s : g.slot ≡ slot_to_use (ended_in R) blk = f.slot in omega arith) in
           let bare : row_size (ended_in R) (image R b g.slot) ≡ 0 = ap (row_size (ended_in R)) (beyond R b g.slot (omega arith)).0 in
           let size : row_size (ended_in R) (after R st b n) ≤ len = subst (λ k. row_size (ended_in R) (after R st b k) ≤ len) at (omega arith) in
-          made_room R st b (len + 40) r c
+          made_room R st b (len + SLOT_SIZE) r c
           (reach_bound (written st.parts) b n (suc n) (each_written (λ d k. d ≡ b → k < suc n) st.parts (every-map _ _ st.parts (λ p z e. slot_in (suc n) (omega arith) (omega arith) p z e) q)) (omega arith))
           (let a = w.slot in let s : g.slot ≡ slot_to_use (ended_in R) blk = f.slot in omega arith)
           (omega arith) (λ k ne. others_quiet R st b k g live pu o q (λ d e. ne (sym e ∙ at)))
@@ -474,7 +474,7 @@ taken_room R st g r live pu o q en f =
     slot_in m l s p (inl z) e = (let a : p.slot < slot_count R g.dba = subst (λ y. p.slot < slot_count R y) e z.there in omega arith)
     slot_in m l s p (inr z) e = subst (λ y. y < m) (ap (λ (q : RowPart). q.slot) (sym z)) s
 
-    entry_new : (t : ℕ) → st.by ≡ By t → entry_for (ended_in R) (block_of R g.dba) t ≡ Some (entry_count R g.dba) → (takes_is (ended_in R) f.pctfree (block_of R g.dba) (length g.new.bytes) f.taker f.takes_it).entry ≡ 24
+    entry_new : (t : ℕ) → st.by ≡ By t → entry_for (ended_in R) (block_of R g.dba) t ≡ Some (entry_count R g.dba) → (takes_is (ended_in R) f.pctfree (block_of R g.dba) (length g.new.bytes) f.taker f.takes_it).entry ≡ LIST_ENTRY_SIZE
     entry_new t e h =
         let w = takes_is (ended_in R) f.pctfree (block_of R g.dba) (length g.new.bytes) f.taker f.takes_it in
         let open' : f.taker ≡ Open t = subst (λ x. IsTaker x f.taker) e f.whose in
@@ -503,20 +503,20 @@ room_adds sh R st b r live pu o x = elim x.rooms [
 -- rows are short
 
 abbrev pub Short : Slot → List Made → Type 0
-Short i ms = (length i.bytes ≤ 1800) × Every (λ (m : Made). length m.old.bytes ≤ 1800) ms
+Short i ms = (length i.bytes ≤ LONGEST_ROW) × Every (λ (m : Made). length m.old.bytes ≤ LONGEST_ROW) ms
 
 abbrev pub ShortIn : List Record → Type 0
 ShortIn R = (b k : ℕ) → Short (image R b k) (makers R b k)
 
-pub short_part : (R : List Record) (p : RowPart) → ShortIn R → IsShort R p → length p.new.bytes ≤ 1800
+pub short_part : (R : List Record) (p : RowPart) → ShortIn R → IsShort R p → length p.new.bytes ≤ LONGEST_ROW
 short_part R p h (inl l) = l
-short_part R p h (inr w) = subst (λ (x : List ℕ). length x ≤ 1800) (sym w.2) (h w.0 w.1).0
+short_part R p h (inr w) = subst (λ (x : List ℕ). length x ≤ LONGEST_ROW) (sym w.2) (h w.0 w.1).0
 
 short_adds : (R : List Record) (st : Step) (i : ℕ) (ps : List RowPart) (b k : ℕ) (ms : List Made) → ShortIn R → Every (IsShort R) ps → StatesOld R ps → Short (image R b k) ms → Short (placed_in (written ps) b k (image R b k)) (made_by st i ps b k ms)
 short_adds R st i [] b k ms all f o h = h
 short_adds R st i (p ∷ ps) b k ms all f o h =
     (elim (is_place p.dba p.slot b k) as (λ v. is_place p.dba p.slot b k ≡ v → Short (cond v p.new (placed_in (written ps) b k (image R b k))) (cond v (record { by = st.by; undo = st.undo; part = part_addr st.undo i; old = p.old } ∷ ms) (made_by st (suc i) ps b k ms))) [
-      | true ↦ λ e. (short_part R p all f.0, (subst (λ (x : Slot). length x.bytes ≤ 1800) (sym o.0) (all p.dba p.slot).0, h.1))
+      | true ↦ λ e. (short_part R p all f.0, (subst (λ (x : Slot). length x.bytes ≤ LONGEST_ROW) (sym o.0) (all p.dba p.slot).0, h.1))
       | false ↦ λ e. short_adds R st (suc i) ps b k ms all f.1 o.1 h
     ]) refl
 
@@ -549,7 +549,7 @@ short_effect R (TakesBack t) f x h s b k =
     (short_back f.step 0 f.step.parts b k (image R b k) (without t.undo (makers R b k)) (subst (Short (image R b k)) lies (s b k)))
 short_effect R (Cleans d cs) f x h s b k =
     elim (eqb d b) as (λ v. Short (cond v (clean_slot cs (image R b k)) (image R b k)) (makers R b k)) [
-      | true ↦ (subst (λ (y : List ℕ). length y ≤ 1800) (sym (told_bytes (image R b k) (number_of_writer cs (image R b k).writer))) (s b k).0, (s b k).1)
+      | true ↦ (subst (λ (y : List ℕ). length y ≤ LONGEST_ROW) (sym (told_bytes (image R b k) (number_of_writer cs (image R b k).writer))) (s b k).0, (s b k).1)
       | false ↦ s b k
     ]
 
@@ -558,7 +558,7 @@ room_effect : (sh : Shape) (R : List Record) (ef : Effect) → EffectFits R ef �
     → Room (ended_in R) (changed_slot_count ef b (slot_count R b)) (changed_entry_count ef b (entry_count R b)) (λ k. changed_image ef b k (image R b k))
 room_effect sh R Still f l x h y r b = r b
 room_effect sh R (Formats d) f l x h y r b =
-    elim (eqb d b) as (λ v. Room (ended_in R) (cond v 0 (slot_count R b)) (cond v 2 (entry_count R b)) (λ k. cond v new_slot (image R b k))) [ true ↦ room_formats (ended_in R) (λ k. new_slot) | false ↦ r b ]
+    elim (eqb d b) as (λ v. Room (ended_in R) (cond v 0 (slot_count R b)) (cond v LEAST_LIST_ENTRIES (entry_count R b)) (λ k. cond v new_slot (image R b k))) [ true ↦ room_formats (ended_in R) (λ k. new_slot) | false ↦ r b ]
 room_effect sh R (Adds st) f l x h y r b = room_adds sh R st b r f.live (put_some R st 0 st.parts x.1) f.old x.0
 room_effect sh R (TakesBack t) f l x h y r b = room_back R t b f h y (r b)
 room_effect sh R (Cleans d cs) f l x h y r b =
@@ -608,7 +608,7 @@ blocks_have_room sh R b h =
       when_more_end = λ f more. (let e = used_is f R b in let u = r.used in
           let l = sum_less (slot_count R b) (size_at f (image R b)) (size_at (ended_in R) (image R b)) (λ k x. let y = size_falls (ended_in R) f (image R b k) (still_over f more (image R b k).writer) (own k) in omega arith) in omega arith);
       page = (let e = page_is R b in let u = r.used in
-          let l = sum_less (slot_count R b) (λ k. 40 + length (image R b k).bytes) (size_at (ended_in R) (image R b)) (λ k x. let y = length_within (ended_in R) (image R b k) (own k) in omega arith) in omega arith);
+          let l = sum_less (slot_count R b) (λ k. SLOT_SIZE + length (image R b k).bytes) (size_at (ended_in R) (image R b)) (λ k x. let y = length_within (ended_in R) (image R b k) (own k) in omega arith) in omega arith);
       entries_from = r.entries_from;
       entries_to = r.entries_to;
       slots = r.slots;

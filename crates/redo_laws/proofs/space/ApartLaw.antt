@@ -1,7 +1,7 @@
 -- Extents and data blocks are apart.
 use Rattle.std.proofs.Common.{◌≡◌, ℕ, zero, suc, ◌+◌, ◌≤◌, true, false, cond, not, ◌||◌, eqb, List, [], ◌∷◌, ◌++◌, length, map, take, refl, sym, ◌∙◌, ap, subst, arith, inl, inr, length-append, eqb-true, true≢false, leb-true, Contains}
 use Rattle.seg_words.proofs.Lemmas.{and_parts}
-use Rattle.seg_words.specs.Types.{Shape, first_block, is_extent}
+use Rattle.seg_words.specs.Types.{Shape, first_block, is_extent, MOST_TABLES, MOST_EXTENTS}
 use Rattle.redo_model.specs.Records.{Record, Extend, Lower}
 use Rattle.redo_model.specs.Model.{Extent, extents_of, data_blocks, has_extent, is_taken, IsKindAllowed, AreAllowed}
 use Rattle.redo_laws.specs.Among.{is_in, MembershipIsTold}
@@ -12,7 +12,7 @@ use Rattle.redo_laws.proofs.space.Apart.{Apart, apart_extents, Distinct, distinc
 -- each extent is a whole one, and there are at most 900
 pub record Placed (sh : Shape) (R : List Record) (o : ℕ) : Type 0 where
   pub whole : (x : ℕ) → has_extent (extents_of R o) x ≡ true → is_extent sh x ≡ true
-  pub few : length (extents_of R o) ≤ 900
+  pub few : length (extents_of R o) ≤ MOST_EXTENTS
 
 pub take_short : (n : ℕ) (es : List Extent) → length (take n es) ≤ length es
 take_short zero es = omega arith
@@ -22,13 +22,13 @@ take_short (suc n) (e ∷ es) = let l = take_short n es in omega (arith, l)
 placed_step : (sh : Shape) (R : List Record) (r : Record) (o : ℕ) → IsKindAllowed sh R r → Placed sh R o → Placed sh (r ∷ R) o
 placed_step sh R (Extend e) o a h =
     let new : Extent = record { number = e.extent; incarnation = suc (length R) } in
-    let free : is_extent sh e.extent ≡ true = (and_parts (is_extent sh e.extent) (not (is_taken R 32 e.extent)) a.extent.free).0 in
+    let free : is_extent sh e.extent ≡ true = (and_parts (is_extent sh e.extent) (not (is_taken R MOST_TABLES e.extent)) a.extent.free).0 in
     record {
       whole = λ x. (elim (eqb e.obj o) as (λ v. has_extent (cond v (extents_of R o ++ new ∷ []) (extents_of R o)) x ≡ true → is_extent sh x ≡ true) [
         | true ↦ λ k. elim (has_added (extents_of R o) new x k) [ inl w ↦ h.whole x w | inr w ↦ subst (λ z. is_extent sh z ≡ true) w free ]
         | false ↦ h.whole x
       ]);
-      few = (elim (eqb e.obj o) as (λ v. eqb e.obj o ≡ v → length (cond v (extents_of R o ++ new ∷ []) (extents_of R o)) ≤ 900) [
+      few = (elim (eqb e.obj o) as (λ v. eqb e.obj o ≡ v → length (cond v (extents_of R o ++ new ∷ []) (extents_of R o)) ≤ MOST_EXTENTS) [
         | true ↦ λ t.
             let index : e.index ≡ length (extents_of R o) = subst (λ z. e.index ≡ length (extents_of R z)) (eqb-true e.obj o t) a.index in
             let longer : length (extents_of R o ++ new ∷ []) ≡ length (extents_of R o) + 1 = length-append (extents_of R o) (new ∷ []) in
@@ -42,7 +42,7 @@ placed_step sh R (Lower l) o a h =
         | true ↦ λ k. h.whole x (has_taken l.kept (extents_of R o) x k)
         | false ↦ h.whole x
       ]);
-      few = elim (eqb l.obj o) as (λ v. length (cond v (take l.kept (extents_of R o)) (extents_of R o)) ≤ 900) [
+      few = elim (eqb l.obj o) as (λ v. length (cond v (take l.kept (extents_of R o)) (extents_of R o)) ≤ MOST_EXTENTS) [
         | true ↦ let s = take_short l.kept (extents_of R o) in let f = h.few in omega (arith, s, f)
         | false ↦ h.few
       ];

@@ -1,7 +1,7 @@
 -- The low-mark rule: every lawful list keeps it.
 use Rattle.std.proofs.Common.{◌≡◌, ℕ, zero, suc, ◌+◌, ◌-◌, ◌<◌, ◌≤◌, true, false, cond, not, ◌&&◌, eqb, List, [], ◌∷◌, ◌++◌, length, take, drop, Some, None, refl, sym, ◌∙◌, ap, subst, arith, length-append, append_assoc, zero-add, append-nil, le_trans, le-add_right, add-zero, inl, inr, mul-le-mul_right, take-append-drop, le-ltb, eqb-true}
 use Rattle.seg_words.proofs.Lemmas.{take-append-le, cond_both, lt-leb, and_left, and_right, and_parts, or_right, or_parts, not-true, eqb-false, cases_order, cases_Bool, cond-true, cond-false}
-use Rattle.seg_words.specs.Types.{Shape, first_block, is_extent, head_blocks}
+use Rattle.seg_words.specs.Types.{Shape, first_block, is_extent, head_blocks, MOST_TABLES}
 use Rattle.redo_model.specs.Records.{Record, Extend, FormatBlock, Advance, Lower, ExtendRecord, LowerRecord, AdvanceRecord, FormatBlockRecord}
 use Rattle.redo_model.specs.Model.{Extent, extents_of, in_extent, blocks_from, data_of, data_blocks, Marks, marks, is_formatted, has_extent, is_taken, first_unformatted, AdvanceAllowed, LowerAllowed, IsKindAllowed, AreAllowed}
 use Rattle.redo_laws.specs.Tables.{LowMarkRule}
@@ -102,10 +102,10 @@ each_always : (P : ℕ → Type 0) (xs : List ℕ) → ((b : ℕ) → P b) → E
 each_always P [] w = tt
 each_always P (x ∷ xs) w = (w x, each_always P xs w)
 
-extend_low : (sh : Shape) (R : List Record) (e : ExtendRecord) (o : ℕ) → 1 ≤ o → o ≤ 32 → Low sh R o → not (is_taken R 32 e.extent) ≡ true → Low sh (Extend e ∷ R) o
+extend_low : (sh : Shape) (R : List Record) (e : ExtendRecord) (o : ℕ) → 1 ≤ o → o ≤ MOST_TABLES → Low sh R o → not (is_taken R MOST_TABLES e.extent) ≡ true → Low sh (Extend e ∷ R) o
 extend_low sh R e o one most h free =
     let g = grown sh R e o in
-    let lacks : has_extent (extents_of R o) e.extent ≡ false = free_of R 32 o e.extent (not-true _ free) one most in
+    let lacks : has_extent (extents_of R o) e.extent ≡ false = free_of R MOST_TABLES o e.extent (not-true _ free) one most in
     let spared = each_take_outside sh R e o lacks in
     let longer : length (data_blocks sh (Extend e ∷ R) o) ≡ length (data_blocks sh R o) + length g.0 = ap length g.1 ∙ length-append (data_blocks sh R o) g.0 in
     record {
@@ -166,14 +166,14 @@ lower_low sh R l o h a =
       | false ↦ λ _. record { formatted = h.formatted; order = h.order; within = h.within }
     ]) refl
 
-step_low : (sh : Shape) (R : List Record) (r : Record) (o : ℕ) → 1 ≤ o → o ≤ 32 → Low sh R o → IsKindAllowed sh R r → Low sh (r ∷ R) o
-step_low sh R (Extend e) o one most h a = extend_low sh R e o one most h (and_parts (is_extent sh e.extent) (not (is_taken R 32 e.extent)) a.extent.free).1
+step_low : (sh : Shape) (R : List Record) (r : Record) (o : ℕ) → 1 ≤ o → o ≤ MOST_TABLES → Low sh R o → IsKindAllowed sh R r → Low sh (r ∷ R) o
+step_low sh R (Extend e) o one most h a = extend_low sh R e o one most h (and_parts (is_extent sh e.extent) (not (is_taken R MOST_TABLES e.extent)) a.extent.free).1
 step_low sh R (FormatBlock f) o one most h a = format_low sh R f o h
 step_low sh R (Advance m) o one most h a = advance_low sh R m o h a
 step_low sh R (Lower l) o one most h a = lower_low sh R l o h a
 step_low sh R _ o one most h a = record { formatted = h.formatted; order = h.order; within = h.within }
 
-pub low : (sh : Shape) (R : List Record) (o : ℕ) → AreAllowed sh R → 1 ≤ o → o ≤ 32 → Low sh R o
+pub low : (sh : Shape) (R : List Record) (o : ℕ) → AreAllowed sh R → 1 ≤ o → o ≤ MOST_TABLES → Low sh R o
 low sh [] o h one most = record { formatted = refl; order = omega arith; within = omega arith }
 low sh (r ∷ R) o h one most = step_low sh R r o one most (low sh R o h.0 one most) h.1.kind
 

@@ -1,7 +1,7 @@
 -- Which blocks a table has: extents are of one table each, and formatted data blocks lie under the high mark.
 use Rattle.std.proofs.Common.{◌≡◌, ◌⊎◌, ℕ, zero, suc, ◌+◌, ◌-◌, ◌<◌, ◌≤◌, min, true, false, cond, not, ◌||◌, eqb, leb, List, [], ◌∷◌, ◌++◌, length, take, drop, Option, Some, None, refl, sym, ◌∙◌, ap, subst, arith, inl, inr, le_trans, eqb-true, true≢false, eq-eqb, lt-ltb, le-leb, leb-true, leb-false, take-append-drop, Contains, slice_index_or}
 use Rattle.seg_words.proofs.Lemmas.{eqb-false, cond-true, cond-false, cases_Bool, and_parts, and_from, or_cases, or_left, or_right, not-true, take-append-le}
-use Rattle.seg_words.specs.Types.{Shape, first_block, is_extent, head_blocks}
+use Rattle.seg_words.specs.Types.{Shape, first_block, is_extent, head_blocks, MOST_TABLES}
 use Rattle.redo_model.specs.Records.{Record, Table, Extend, FormatBlock, Advance, Lower, ExtendRecord, FormatBlockRecord, AdvanceRecord, LowerRecord}
 use Rattle.redo_model.specs.Model.{IsKindAllowed, AreAllowed, Extent, extents_of, in_extent, blocks_from, extent_data, data_of, data_blocks, high_mark, marks, under_high, is_formatted, IsTable, table_count, has_extent, is_taken, is_free_extent, first_unformatted, ExtendAllowed, FormatAllowed, AdvanceAllowed, LowerAllowed}
 use Rattle.redo_laws.specs.Among.{is_in}
@@ -103,11 +103,11 @@ same_extent sh x y b lx ux ly uy =
 
 pub record IsNumber (o : ℕ) : Type 0 where
   pub least : 1 ≤ o
-  pub most : o ≤ 32
+  pub most : o ≤ MOST_TABLES
 
 -- what the records of segments keep
 pub record Segments (sh : Shape) (R : List Record) : Type 0 where
-  pub tables : table_count R ≤ 32
+  pub tables : table_count R ≤ MOST_TABLES
   pub distinct : (o p x : ℕ) → IsNumber o → IsNumber p → has_extent (extents_of R o) x ≡ true → has_extent (extents_of R p) x ≡ true → o ≡ p
   pub under : (o b : ℕ) → IsNumber o → is_in b (data_blocks sh R o) ≡ true → is_formatted sh R b ≡ true → is_in b (under_high sh R o) ≡ true
 
@@ -139,7 +139,7 @@ added_has sh R e o x h =
     ]) refl h
 
 pub free_has : (sh : Shape) (R : List Record) (o x : ℕ) → IsNumber o → is_free_extent sh R x ≡ true → has_extent (extents_of R o) x ≡ true → ⊥
-free_has sh R o x n f h = true≢false (sym h ∙ free_of R 32 o x (not-true _ (and_parts (is_extent sh x) (not (is_taken R 32 x)) f).1) n.least n.most)
+free_has sh R o x n f h = true≢false (sym h ∙ free_of R MOST_TABLES o x (not-true _ (and_parts (is_extent sh x) (not (is_taken R MOST_TABLES x)) f).1) n.least n.most)
 
 extend_distinct : (sh : Shape) (R : List Record) (e : ExtendRecord) → ExtendAllowed sh R e → Segments sh R → (o p x : ℕ) → IsNumber o → IsNumber p → has_extent (extents_of (Extend e ∷ R) o) x ≡ true → has_extent (extents_of (Extend e ∷ R) p) x ≡ true → o ≡ p
 extend_distinct sh R e a s o p x n m h k =

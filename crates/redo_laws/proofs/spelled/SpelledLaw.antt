@@ -1,7 +1,7 @@
 -- Each allowed record has a spelling.
 use Rattle.std.proofs.Common.{◌≡◌, ℕ, zero, suc, ◌+◌, ◌*◌, ◌<◌, ◌≤◌, ◌^◌, Bool, true, false, not, eqb, List, [], ◌∷◌, length, map, take, drop, Option, Some, None, refl, sym, ◌∙◌, ap, subst, arith, le_refl, leb-true, eq-eqb}
 use Rattle.seg_words.proofs.Lemmas.{and_parts, or_left, or_right}
-use Rattle.seg_words.specs.Types.{AllByRecursion, Shape, first_block, is_extent, is_shape}
+use Rattle.seg_words.specs.Types.{AllByRecursion, Shape, first_block, is_extent, is_shape, TXN_ENTRIES, MOST_TABLES, MOST_EXTENTS, EXTENTS_OF_L2, LEAST_EXTENT_BLOCKS}
 use Rattle.redo_model.specs.Records.{Record, Table, Movement, Extend, FormatBlock, Class, Advance, Lower, Begin, Reuse, Insert, Update, Migrate, Return, Delete, Commit, Back, Ended, Move, Clean, RowPart, RowBody, BackRecord, MoveRecord, TableRecord, MovementRecord, ExtendRecord, FormatBlockRecord, ClassRecord, AdvanceRecord, LowerRecord, BeginRecord, ReuseRecord, CommitRecord, EndedRecord, IsBlock, IsUndo, IsPlace, IsRowPart, IsBackPart, IsRowBody, IsBack, IsMove, IsTable, IsMovement, IsExtend, IsFormatBlock, IsClass, IsAdvance, IsThree, AreExtents, IsLower, IsBegin, IsReuse, IsCommit, IsEnded, HasSpelling}
 use Rattle.redo_model.specs.Model.{Step, effect_of, row_step, move_step, is_commit, is_begin, is_lower, is_active, entry_of, standing, Extent, extents_of, data_blocks, high_mark, under_high, has_extent, extent_at, block_in, is_taken, is_free_extent, group_start, index_of, TableAllowed, MovementAllowed, ExtendAllowed, FormatAllowed, ClassAllowed, AdvanceAllowed, LowerAllowed, l2_at, TakesEntry, BeginAllowed, ReuseAllowed, CommitAllowed, EndedAllowed, taken_back, BackAllowed, MayChange, MigrateAllowed, DeleteAllowed, MoveAllowed, image, IsKindAllowed, AreAllowed}
 use Rattle.redo_model.specs.AllowedTransactions.{takes_unused, takes_rolled_back, takes_committed}
@@ -28,7 +28,7 @@ use Rattle.redo_laws.proofs.spelled.SpelledCleans.{clean_numbers, clean_spelled}
 small_block : (sh : Shape) (R : List Record) (n : ℕ) → Before sh R → n ≤ sh.blocks → n < 2 ^ 32
 small_block sh R n q l = let m = q.limits.most in omega (arith, l, m)
 
-extent_small : (sh : Shape) (R : List Record) (x : ℕ) → Before sh R → is_extent sh x ≡ true → (x < 2 ^ 32) × (first_block sh x + 8 ≤ sh.blocks)
+extent_small : (sh : Shape) (R : List Record) (x : ℕ) → Before sh R → is_extent sh x ≡ true → (x < 2 ^ 32) × (first_block sh x + LEAST_EXTENT_BLOCKS ≤ sh.blocks)
 extent_small sh R x q e =
     let l = leb-true (first_block sh x + sh.extent) sh.blocks e in
     let m = q.limits.most in
@@ -41,7 +41,7 @@ extent_small sh R x q e =
     times (suc x) n l = let k = times x n l in omega (arith, k, l)
 
 free_is_extent : (sh : Shape) (R : List Record) (x : ℕ) → is_free_extent sh R x ≡ true → is_extent sh x ≡ true
-free_is_extent sh R x f = (and_parts (is_extent sh x) (not (is_taken R 32 x)) f).0
+free_is_extent sh R x f = (and_parts (is_extent sh x) (not (is_taken R MOST_TABLES x)) f).0
 
 table_spelled : (sh : Shape) (R : List Record) (t : TableRecord) → Before sh R → TableAllowed sh R t → IsTable t
 table_spelled sh R t q a =
@@ -52,7 +52,7 @@ table_spelled sh R t q a =
     record { obj = (omega (arith, n), omega (arith, n, f)); header = small_block sh R t.header q (omega (arith, h, x)); pctfree = a.pctfree; name = a.named }
 
 -- a block at one of the first places of an extent of the table
-place_small : (sh : Shape) (R : List Record) (S : List Record) (o i n : ℕ) → Before sh R → AreAllowed sh S → n < 8 → block_in sh (extent_at (extents_of S o) i) n < 2 ^ 32
+place_small : (sh : Shape) (R : List Record) (S : List Record) (o i n : ℕ) → Before sh R → AreAllowed sh S → n < LEAST_EXTENT_BLOCKS → block_in sh (extent_at (extents_of S o) i) n < 2 ^ 32
 place_small sh R S o i n q h l = let w = q.limits.extent_from in small_block sh R (block_in sh (extent_at (extents_of S o) i) n) q (block_in_bound sh (extents_of S o) i n (placed sh S o h).whole (omega (arith, l, w)))
 
 movement_spelled : (sh : Shape) (R : List Record) (m : MovementRecord) → Before sh R → MovementAllowed sh R m → IsMovement m
@@ -125,14 +125,14 @@ drop_short zero es = le_refl (length es)
 drop_short (suc n) [] = omega arith
 drop_short (suc n) (e ∷ es) = let k = drop_short n es in omega (arith, k)
 
-released_spelled : (sh : Shape) (R : List Record) (es : List Extent) → Before sh R → ((x : ℕ) → has_extent es x ≡ true → is_extent sh x ≡ true) → length es ≤ 900 → AreExtents (map (λ (e : Extent). e.number) es)
+released_spelled : (sh : Shape) (R : List Record) (es : List Extent) → Before sh R → ((x : ℕ) → has_extent es x ≡ true → is_extent sh x ≡ true) → length es ≤ MOST_EXTENTS → AreExtents (map (λ (e : Extent). e.number) es)
 released_spelled sh R es q w l = record { count = count es l; each = each es w }
   where
     names_length : (es : List Extent) → length (map (λ (e : Extent). e.number) es) ≡ length es
     names_length [] = refl
     names_length (e ∷ es) = ap (λ n. suc n) (names_length es)
 
-    count : (es : List Extent) → length es ≤ 900 → length (map (λ (e : Extent). e.number) es) < 2 ^ 16
+    count : (es : List Extent) → length es ≤ MOST_EXTENTS → length (map (λ (e : Extent). e.number) es) < 2 ^ 16
     count es l = let k = names_length es in omega (arith, k, l)
 
     each : (es : List Extent) → ((x : ℕ) → has_extent es x ≡ true → is_extent sh x ≡ true) → AllByRecursion (λ x. x < 2 ^ 32) (map (λ (e : Extent). e.number) es)
@@ -163,9 +163,9 @@ lower_spelled sh R l q a =
       kept = omega (arith, kept, few);
       low = omega (arith, low, high, all);
       high = omega (arith, high, all);
-      l2 = subst (IsThree IsBlock) (sym a.l2) (record { count = refl; each = (l2_small 0, (l2_small 300, (l2_small 600, tt))) });
+      l2 = subst (IsThree IsBlock) (sym a.l2) (record { count = refl; each = (l2_small 0, (l2_small EXTENTS_OF_L2, (l2_small (2 * EXTENTS_OF_L2), tt))) });
       l3 = subst (λ k. k < 2 ^ 32) (sym a.l3) (place_small sh R R l.obj 0 2 q q.allowed (omega arith));
-      bests = subst (IsThree (λ k. k ≤ 5)) (sym a.bests) (record { count = refl; each = (l2_best_bound sh (Lower l ∷ R) l.obj 0, (l2_best_bound sh (Lower l ∷ R) l.obj 300, (l2_best_bound sh (Lower l ∷ R) l.obj 600, tt))) });
+      bests = subst (IsThree (λ k. k ≤ 5)) (sym a.bests) (record { count = refl; each = (l2_best_bound sh (Lower l ∷ R) l.obj 0, (l2_best_bound sh (Lower l ∷ R) l.obj EXTENTS_OF_L2, (l2_best_bound sh (Lower l ∷ R) l.obj (2 * EXTENTS_OF_L2), tt))) });
       released = subst AreExtents (sym a.released) (released_spelled sh R (drop l.kept es) q (λ x h. p.whole x (has_dropped l.kept es x h)) (omega (arith, s, few)));
     }
   where
@@ -194,7 +194,7 @@ entry_small sh R t i q h e =
     let l = w.2 in
     omega (arith, s, l)
 
-entry_within : (R : List Record) (i c : ℕ) → TakesEntry R i c → i < 96
+entry_within : (R : List Record) (i c : ℕ) → TakesEntry R i c → i < TXN_ENTRIES
 entry_within R i c (takes_unused a) = a.within
 entry_within R i c (takes_rolled_back a) = a.within
 entry_within R i c (takes_committed a) = a.within
@@ -255,7 +255,7 @@ back_spelled sh R k q a =
     record {
       txn = txn_small sh R k.txn q a.active;
       entry = entry_small sh R k.txn k.entry q a.active a.entry;
-      obj = subst (λ o. (1 ≤ o) × (o ≤ 32)) (sym a.obj) s.obj;
+      obj = subst (λ o. (1 ≤ o) × (o ≤ MOST_TABLES)) (sym a.obj) s.obj;
       row = subst (λ r. r < 2 ^ 64) (sym a.row) s.row;
       undo = (subst (λ u. IsUndo (Some u)) (sym a.undo) s.undo).1;
       previous = subst IsPlace (sym a.previous) s.previous;

@@ -1,7 +1,7 @@
 -- Images, and the parts of row records and Moves, have spellings.
 use Rattle.std.proofs.Common.{◌≡◌, ℕ, zero, suc, ◌+◌, ◌<◌, ◌≤◌, ◌^◌, true, false, cond, eqb, ltb, leb, List, [], ◌∷◌, length, Option, Some, None, refl, sym, ◌∙◌, ap, subst, arith, inl, inr, true≢false, ltb-false, leb-true, leb-false}
 use Rattle.seg_words.proofs.Lemmas.{cases_Bool, not-true}
-use Rattle.seg_words.specs.Types.{AllByRecursion, Shape, Head, Slot, UndoAddr, Writer, By, At, new_slot, number_of, number_of_writer, as_told, clean_slot, writer_number, is_empty}
+use Rattle.seg_words.specs.Types.{AllByRecursion, Shape, Head, Slot, UndoAddr, Writer, By, At, new_slot, number_of, number_of_writer, as_told, clean_slot, writer_number, is_empty, BLOCK_ROOM, MOST_SLOTS, MOST_UNDO_PARTS, OWN_BLOCKS, MOST_LIST_ENTRIES}
 use Rattle.seg_base.proofs.Rooms.{slot_to_use-le-length}
 use Rattle.redo_model.specs.Records.{Record, RowPart, BackPart, IsTableNumber, IsUndo, IsPlace, IsLink, IsEntry, IsImage, IsRowPart, IsBackPart, AreParts}
 use Rattle.redo_model.specs.Model.{Step, Effect, written, restored, is_commit, is_begin, ended_in, is_by, standing_steps, standing, newest_of, undo_of_step, is_place, placed_in, changed_image, image, slot_count, block_of, parts_size, undo_used, at_place, next_slot, place_of_undo, data_blocks, AreAllowed}
@@ -112,19 +112,19 @@ pub record Before (sh : Shape) (R : List Record) : Type 0 where
 
 -- links
 
-full_block : (sh : Shape) (R : List Record) (b k : ℕ) → Before sh R → is_empty (image R b k).kind ≡ false → (37 ≤ b) × (b < sh.blocks)
+full_block : (sh : Shape) (R : List Record) (b k : ℕ) → Before sh R → is_empty (image R b k).kind ≡ false → (OWN_BLOCKS ≤ b) × (b < sh.blocks)
 full_block sh R b k q e = elim (q.whole.homes b) [
   | inl l ↦ data_bound sh R l.obj b q.allowed l.here.1
   | inr d ↦ absurd (true≢false (sym (d.vacant k).empty ∙ e))
 ]
 
-full_slot : (R : List Record) (b k : ℕ) → RoomIn R b → is_empty (image R b k).kind ≡ false → k < 100
+full_slot : (R : List Record) (b k : ℕ) → RoomIn R b → is_empty (image R b k).kind ≡ false → k < MOST_SLOTS
 full_slot R b k r e = elim (cases_Bool (leb (slot_count R b) k)) [
   | inr f ↦ (let l = leb-false (slot_count R b) k f in let m = r.slots in omega (arith, l, m))
   | inl y ↦ absurd (true≢false (sym (ap (λ (i : Slot). is_empty i.kind) (beyond R b k (leb-true (slot_count R b) k y)).0) ∙ e))
 ]
 
-link_of : (sh : Shape) (b k : ℕ) → Limits sh → (37 ≤ b) × (b < sh.blocks) → k ≤ 100 → IsLink (Some (at_place b k))
+link_of : (sh : Shape) (b k : ℕ) → Limits sh → (OWN_BLOCKS ≤ b) × (b < sh.blocks) → k ≤ MOST_SLOTS → IsLink (Some (at_place b k))
 link_of sh b k l h s = let from = h.0 in let to = h.1 in let m = l.most in (omega (arith, from), (omega (arith, to, m), omega (arith, s)))
 
 pub full_link : (sh : Shape) (R : List Record) (b k : ℕ) → Before sh R → is_empty (image R b k).kind ≡ false → IsLink (Some (at_place b k))
@@ -142,7 +142,7 @@ target_link sh R o b q h =
 abbrev pub LinkRow : RowPart → Type 0
 LinkRow p = IsLink p.new.link × (p.new.row < 2 ^ 64) × (p.new.kind ≡ Head → p.new.bytes ≡ [])
 
-entry_spelled : (o : Option ℕ) → ((e : ℕ) → o ≡ Some e → e < 8) → IsEntry o
+entry_spelled : (o : Option ℕ) → ((e : ℕ) → o ≡ Some e → e < MOST_LIST_ENTRIES) → IsEntry o
 entry_spelled None h = tt
 entry_spelled (Some e) h = let l = h e refl in omega (arith, l)
 
@@ -152,7 +152,7 @@ record Numbers (st : Step) : Type 0 where
   positive : 0 < st.undo.block
   block : st.undo.block < 2 ^ 32
   seq : st.undo.seq < 2 ^ 64
-  places : st.undo.nth + length st.parts ≤ 63
+  places : st.undo.nth + length st.parts ≤ MOST_UNDO_PARTS
 
 numbers : (sh : Shape) (R : List Record) (st : Step) → Before sh R → Basics R st → Numbers st
 numbers sh R st q b =
@@ -165,7 +165,7 @@ numbers sh R st q b =
     let e = b.undo.sequence in
     let n = q.short in
     let place = b.undo.place in
-    let fits = places_bound R st.undo.block st.parts (ltb-false 4032 (undo_used R st.undo.block + parts_size st.parts) (not-true (ltb 4032 (undo_used R st.undo.block + parts_size st.parts)) b.undo.fits)) in
+    let fits = places_bound R st.undo.block st.parts (ltb-false BLOCK_ROOM (undo_used R st.undo.block + parts_size st.parts) (not-true (ltb BLOCK_ROOM (undo_used R st.undo.block + parts_size st.parts)) b.undo.fits)) in
     record {
       writer = go st.by refl;
       positive = omega (arith, from);
@@ -178,7 +178,7 @@ numbers sh R st q b =
     go (By u) e = let k = (known sh R 0 u q.allowed).begins (b.live u e) in let c = count_short is_begin R in let n = q.short in omega (arith, k, c, n)
     go (At m) e = let k = b.number m e in let c = count_short is_commit R in let n = q.short in omega (arith, k, c, n)
 
-part_spelled : (sh : Shape) (R : List Record) (st : Step) (i : ℕ) (p : RowPart) → Before sh R → Numbers st → st.undo.nth + i < 63 → Replaces sh R st p → Puts R st i p → PartFits R p → LinkRow p → IsRowPart p
+part_spelled : (sh : Shape) (R : List Record) (st : Step) (i : ℕ) (p : RowPart) → Before sh R → Numbers st → st.undo.nth + i < MOST_UNDO_PARTS → Replaces sh R st p → Puts R st i p → PartFits R p → LinkRow p → IsRowPart p
 part_spelled sh R st i p q n l r pu f x =
     let d = block r in
     let to = d.1 in
@@ -201,11 +201,11 @@ part_spelled sh R st i p q n l r pu f x =
       old = subst IsImage (sym f.old) (q.images p.dba p.slot);
     }
   where
-    block : Replaces sh R st p → (37 ≤ p.dba) × (p.dba < sh.blocks)
+    block : Replaces sh R st p → (OWN_BLOCKS ≤ p.dba) × (p.dba < sh.blocks)
     block (inl y) = full_block sh R p.dba p.slot q (ap (λ (s : Slot). is_empty s.kind) (sym f.old) ∙ y.0)
     block (inr y) = data_bound sh R st.obj p.dba q.allowed y.2.1
 
-parts_spelled : (sh : Shape) (R : List Record) (st : Step) (i : ℕ) (ps : List RowPart) → Before sh R → Numbers st → st.undo.nth + i + length ps ≤ 63 → Every (Replaces sh R st) ps → AllPut R st i ps → EachFits R ps → Every LinkRow ps → AllByRecursion IsRowPart ps
+parts_spelled : (sh : Shape) (R : List Record) (st : Step) (i : ℕ) (ps : List RowPart) → Before sh R → Numbers st → st.undo.nth + i + length ps ≤ MOST_UNDO_PARTS → Every (Replaces sh R st) ps → AllPut R st i ps → EachFits R ps → Every LinkRow ps → AllByRecursion IsRowPart ps
 parts_spelled sh R st i [] q n l r pu f x = tt
 parts_spelled sh R st i (p ∷ ps) q n l r pu f x = (part_spelled sh R st i p q n (omega arith) r.0 pu.0 f.0 x.0, parts_spelled sh R st (suc i) ps q n (omega arith) r.1 pu.1 f.1 x.1)
 

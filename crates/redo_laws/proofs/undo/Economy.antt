@@ -1,7 +1,7 @@
 -- Undo blocks in a lawful list: addresses are given in order, active transactions keep their parts, blocks don't overflow.
 use Rattle.std.proofs.Common.{◌≡◌, ◌⊎◌, ℕ, suc, ◌+◌, ◌<◌, ◌≤◌, Bool, true, false, cond, not, ◌||◌, eqb, ltb, List, [], ◌∷◌, ◌++◌, length, Option, Some, None, find, refl, sym, ◌∙◌, ap, ap₂, subst, arith, inl, inr, length-append, zero-add, eqb-true, ne_eqb, eq-eqb, ltb-false, true≢false, sum_by}
 use Rattle.seg_words.proofs.Lemmas.{cond_both, cond-true, cond-false, cases_Bool, and_left, and_right, not-true, or_cases, or_left, or_right, sum_by-append}
-use Rattle.seg_words.specs.Types.{Shape, UndoAddr, Writer, By, At}
+use Rattle.seg_words.specs.Types.{Shape, UndoAddr, Writer, By, At, BLOCK_ROOM, OWN_BLOCKS}
 use Rattle.redo_model.specs.Records.{Record, Begin, Reuse, Insert, Update, Migrate, Return, Delete, Commit, Back, Ended, Move, RowPart, ReuseRecord}
 use Rattle.redo_model.specs.Model.{Step, row_step, move_step, txn_count, is_active, is_addr, is_by, standing, without_step, Undone, part_size, parts_size, undone, undo_parts, undo_used, current_undo, undo_sequence, lesser, least_active, undo_holder, has_holder, ring_after, next_undo, StatesUndo, ReuseAllowed, IsKindAllowed}
 use Rattle.redo_laws.proofs.lists.Every.{Every, every-map, every-filter}
@@ -30,7 +30,7 @@ pub record UndoKept (active : ℕ → Bool) (current : Option ℕ) (seqs : ℕ �
   pub least : Every (λ (st : Step). 1 ≤ length st.parts) ss
   pub none : current ≡ None → ss ≡ []
   pub in_use : Every (InUse active seqs parts) ss
-  pub full : (u : ℕ) → size_of (parts u) ≤ 4032
+  pub full : (u : ℕ) → size_of (parts u) ≤ BLOCK_ROOM
 
 -- the parts of a step
 
@@ -80,8 +80,8 @@ in_use_grown active seqs parts b vs st h = λ u e on.
     let q = h u e on in
     (q.0, cond_both (eqb b st.undo.block) (parts st.undo.block ++ vs) (parts st.undo.block) (λ xs. parts_by u xs ≡ true) (λ y. by_later u (parts st.undo.block) vs q.1) (λ y. q.1))
 
-room_is : (used size : ℕ) → not (ltb 4032 (used + size)) ≡ true → used + size ≤ 4032
-room_is used size h = ltb-false 4032 (used + size) (not-true (ltb 4032 (used + size)) h)
+room_is : (used size : ℕ) → not (ltb BLOCK_ROOM (used + size)) ≡ true → used + size ≤ BLOCK_ROOM
+room_is used size h = ltb-false BLOCK_ROOM (used + size) (not-true (ltb BLOCK_ROOM (used + size)) h)
 
 adds_kept : (R : List Record) (st : Step) (cur : Option ℕ) → Basics R st → (cur ≡ None → ⊥)
     → UndoKept (is_active R) (current_undo R) (undo_sequence R) (undo_parts R) (standing R)
@@ -105,9 +105,9 @@ adds_kept R st cur a some h =
         (λ u e on. (a.undo.sequence, subst (λ (xs : List Undone). parts_by u xs ≡ true) (sym here) (by_last u (undo_parts R b) vs (by_some u st.by st.parts e a.least)))),
         every-map _ _ (standing R) (λ s x. in_use_grown (is_active R) (undo_sequence R) (undo_parts R) b vs s x) h.in_use,
       );
-      full = λ u. cond_both (eqb b u) (undo_parts R u ++ vs) (undo_parts R u) (λ xs. size_of xs ≤ 4032)
-          (λ y. subst (λ x. size_of (undo_parts R x ++ vs) ≤ 4032) (eqb-true b u y)
-          (let e = sum_by-append (λ (p : Undone). p.size) (undo_parts R b) vs in let f = size_undone st.by st.parts in let r : size_of (undo_parts R b) + parts_size st.parts ≤ 4032 = room_is (undo_used R b) (parts_size st.parts) a.undo.fits in omega arith))
+      full = λ u. cond_both (eqb b u) (undo_parts R u ++ vs) (undo_parts R u) (λ xs. size_of xs ≤ BLOCK_ROOM)
+          (λ y. subst (λ x. size_of (undo_parts R x ++ vs) ≤ BLOCK_ROOM) (eqb-true b u y)
+          (let e = sum_by-append (λ (p : Undone). p.size) (undo_parts R b) vs in let f = size_undone st.by st.parts in let r : size_of (undo_parts R b) + parts_size st.parts ≤ BLOCK_ROOM = room_is (undo_used R b) (parts_size st.parts) a.undo.fits in omega arith))
           (λ y. h.full u);
     }
 
@@ -154,7 +154,7 @@ reuse_free sh R b e = go (current_undo R) refl
   where
     go : (o : Option ℕ) → current_undo R ≡ o → (current_undo R ≡ None) ⊎ (has_holder R b ≡ false)
     go None f = inl f
-    go (Some c) f = inr (not-true (has_holder R b) (found_passes (λ x. not (has_holder R x)) (ring_after sh c) b (ap (λ (o : Option ℕ). elim o as (λ x. Option ℕ) [ None ↦ Some 37 | Some u ↦ find (λ x. not (has_holder R x)) (ring_after sh u) ]) (sym f) ∙ e)))
+    go (Some c) f = inr (not-true (has_holder R b) (found_passes (λ x. not (has_holder R x)) (ring_after sh c) b (ap (λ (o : Option ℕ). elim o as (λ x. Option ℕ) [ None ↦ Some OWN_BLOCKS | Some u ↦ find (λ x. not (has_holder R x)) (ring_after sh u) ]) (sym f) ∙ e)))
 
 -- after a Reuse
 
@@ -184,7 +184,7 @@ reuse_kept sh R q a h = record {
     | inl e ↦ subst (Every (InUse (is_active R) (λ u. cond (eqb q.block u) (suc (undo_sequence R u)) (undo_sequence R u)) (λ u. cond (eqb q.block u) [] (undo_parts R u)))) (sym (h.none e)) tt
     | inr f ↦ every-map _ _ (standing R) (λ s x. in_use_reuse (is_active R) (undo_sequence R) (undo_parts R) q.block s (λ u p on. holder_none R q.block u f p on) x) h.in_use
   ];
-  full = λ u. cond_both (eqb q.block u) [] (undo_parts R u) (λ xs. size_of xs ≤ 4032) (λ y. omega arith) (λ y. h.full u);
+  full = λ u. cond_both (eqb q.block u) [] (undo_parts R u) (λ xs. size_of xs ≤ BLOCK_ROOM) (λ y. omega arith) (λ y. h.full u);
 }
 
 back_kept : (active : ℕ → Bool) (cur : Option ℕ) (seqs : ℕ → ℕ) (parts : ℕ → List Undone) (ss : List Step) (a : UndoAddr) → UndoKept active cur seqs parts ss → UndoKept active cur seqs parts (without_step a ss)

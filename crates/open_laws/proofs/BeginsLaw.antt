@@ -1,7 +1,7 @@
 -- Few are active, so a session can begin.
 use Rattle.std.proofs.Common.{◌≡◌, ◌⊎◌, ℕ, zero, suc, ◌-◌, ◌≤◌, ◌<◌, Bool, true, false, eqb, List, [], ◌∷◌, Option, Some, None, refl, sym, ◌∙◌, ap, arith, inl, inr, eqb-true, true≢false}
 use Rattle.seg_words.proofs.Lemmas.{cond-false, cases_Bool, eqb-false}
-use Rattle.seg_words.specs.Types.{Shape}
+use Rattle.seg_words.specs.Types.{Shape, TXN_ENTRIES, MOST_SESSIONS}
 use Rattle.redo_model.specs.Records.{Record, Table, Reuse, Begin}
 use Rattle.redo_model.specs.Model.{txn_count, is_active, commit_number, control_number, user_of, EntryState, state_when_over, state_of_user, entry_state, is_unused, is_rolled_back, IsCalledFor, AreAllowed, is_whole}
 use Rattle.redo_model.specs.AllowedTransactions.{Unused, InUse, Committed, RolledBack, takes_unused, takes_rolled_back, takes_committed}
@@ -17,14 +17,14 @@ use Rattle.open_laws.proofs.Counting.{Least, NoneSo, search, count_all, count_fe
 abbrev OfSession : List Record → ℕ → ℕ → Type 0
 OfSession R t w = own_of R (suc w) ≡ Some t
 
-into_session : (sh : Shape) (R : List Record) (t : ℕ) → AreAllowed sh R → is_active R t ≡ true → (w : ℕ) × (w < 64) × OfSession R t w
+into_session : (sh : Shape) (R : List Record) (t : ℕ) → AreAllowed sh R → is_active R t ≡ true → (w : ℕ) × (w < MOST_SESSIONS) × OfSession R t w
 into_session sh R t h on =
     let s = whose sh R t h on in
     let same : s.session ≡ suc (s.session - 1) = (let l = s.from in omega (arith, l)) in
     (s.session - 1, (let l = s.from in let u = s.to in omega (arith, l, u)), ap (own_of R) (sym same) ∙ s.own)
 
-few : (sh : Shape) (R : List Record) (n : ℕ) → AreAllowed sh R → count_below (is_active R) n ≤ 64
-few sh R n h = count_few (is_active R) (OfSession R) 64 n (λ t on. into_session sh R t h on) (λ s t w e f. same_some s t (sym e ∙ f))
+few : (sh : Shape) (R : List Record) (n : ℕ) → AreAllowed sh R → count_below (is_active R) n ≤ MOST_SESSIONS
+few sh R n h = count_few (is_active R) (OfSession R) MOST_SESSIONS n (λ t on. into_session sh R t h on) (λ s t w e f. same_some s t (sym e ∙ f))
 
 -- entries in use
 
@@ -56,7 +56,7 @@ user_on R i y = go (user_of R i) refl
 abbrev EntryOf : List Record → ℕ → ℕ → Type 0
 EntryOf R i w = (t : ℕ) × (user_of R i ≡ Some t) × OfSession R t w
 
-into_entry : (sh : Shape) (R : List Record) → AreAllowed sh R → Into (in_use R) (EntryOf R) 64
+into_entry : (sh : Shape) (R : List Record) → AreAllowed sh R → Into (in_use R) (EntryOf R) MOST_SESSIONS
 into_entry sh R h i y =
     let u = user_on R i y in
     let s = into_session sh R u.0 h u.2 in
@@ -77,12 +77,12 @@ is_of : (R : List Record) (i : ℕ) → not_in_use R i ≡ false → in_use R i 
 is_of R i e = (elim (in_use R i) as (λ v. elim v as (λ _. Bool) [ true ↦ false | false ↦ true ] ≡ false → v ≡ true) [ true ↦ λ x. refl | false ↦ λ x. absurd (true≢false x) ]) e
 
 -- an entry that isn't in use
-spare : (sh : Shape) (R : List Record) → AreAllowed sh R → Least (not_in_use R) 96
-spare sh R h = elim (search (not_in_use R) 96) [
+spare : (sh : Shape) (R : List Record) → AreAllowed sh R → Least (not_in_use R) TXN_ENTRIES
+spare sh R h = elim (search (not_in_use R) TXN_ENTRIES) [
   | inl y ↦ y
   | inr none ↦
-      let all : count_below (in_use R) 96 ≡ 96 = count_all (in_use R) 96 (λ j l. is_of R j (none j l)) in
-      let most : count_below (in_use R) 96 ≤ 64 = count_few (in_use R) (EntryOf R) 64 96 (into_entry sh R h) (one_entry R (txn_table sh R h)) in
+      let all : count_below (in_use R) TXN_ENTRIES ≡ TXN_ENTRIES = count_all (in_use R) TXN_ENTRIES (λ j l. is_of R j (none j l)) in
+      let most : count_below (in_use R) TXN_ENTRIES ≤ MOST_SESSIONS = count_few (in_use R) (EntryOf R) MOST_SESSIONS TXN_ENTRIES (into_entry sh R h) (one_entry R (txn_table sh R h)) in
       absurd (omega (arith, all, most))
 ]
 
@@ -192,8 +192,8 @@ state_else InUse a b d = absurd (true≢false d)
 state_else (Committed c) a b d = (c, refl)
 state_else RolledBack a b d = absurd (true≢false b)
 
-committed_entry : (sh : Shape) (R : List Record) → AreAllowed sh R → NoneSo (λ j. is_unused (entry_state R j)) 96 → NoneSo (λ j. is_rolled_back (entry_state R j)) 96 → EntryToTake R
-committed_entry sh R h none_unused none_back = elim (least_committed R 96) [
+committed_entry : (sh : Shape) (R : List Record) → AreAllowed sh R → NoneSo (λ j. is_unused (entry_state R j)) TXN_ENTRIES → NoneSo (λ j. is_rolled_back (entry_state R j)) TXN_ENTRIES → EntryToTake R
+committed_entry sh R h none_unused none_back = elim (least_committed R TXN_ENTRIES) [
   | inl b ↦ record { entry = b.at; control = b.number; takes = takes_committed (record { within = b.below; no_unused = none_unused; no_rolled_back = none_back; committed = b.state; least = b.least }) }
   | inr none ↦
       let s = spare sh R h in
@@ -202,9 +202,9 @@ committed_entry sh R h none_unused none_back = elim (least_committed R 96) [
 ]
 
 pub entry_to_take : (sh : Shape) (R : List Record) → AreAllowed sh R → EntryToTake R
-entry_to_take sh R h = elim (search (λ j. is_unused (entry_state R j)) 96) [
+entry_to_take sh R h = elim (search (λ j. is_unused (entry_state R j)) TXN_ENTRIES) [
   | inl u ↦ record { entry = u.at; control = control_number R; takes = takes_unused (record { within = u.below; unused = state_unused (entry_state R u.at) u.is_so; least = u.least; control_stays = refl }) }
-  | inr none ↦ elim (search (λ j. is_rolled_back (entry_state R j)) 96) [
+  | inr none ↦ elim (search (λ j. is_rolled_back (entry_state R j)) TXN_ENTRIES) [
     | inl u ↦ record { entry = u.at; control = control_number R; takes = takes_rolled_back (record { within = u.below; no_unused = none; rolled_back = state_rolled_back (entry_state R u.at) u.is_so; least = u.least; control_stays = refl }) }
     | inr none_back ↦ committed_entry sh R h none none_back
   ]

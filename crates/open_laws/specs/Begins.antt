@@ -1,7 +1,7 @@
 -- A session without an active transaction can always begin one: at most 64 are active, each of a session, and the table has 96
 -- entries.
 use Rattle.std.specs.Prelude.{◌≡◌, ℕ, zero, suc, ◌≤◌, Bool, false, cond, List}
-use Rattle.seg_words.specs.Types.{Shape}
+use Rattle.seg_words.specs.Types.{Shape, MOST_SESSIONS}
 use Rattle.redo_model.specs.Records.{Record, Begin, BeginRecord}
 use Rattle.redo_model.specs.Model.{txn_count, is_active, has_open, TakesEntry, AreAllowed, IsAllowed, IsLawful}
 
@@ -21,7 +21,7 @@ pub record EntryToTake (R : List Record) : Type 0 where
   pub takes : TakesEntry R entry control
 
 pub record FewActive (R : List Record) : Type 0 where
-  pub few : active_count R ≤ 64
+  pub few : active_count R ≤ MOST_SESSIONS
   pub take : EntryToTake R
 
 abbrev pub FewAreActive : Type 0
@@ -34,4 +34,4 @@ pub record BeginOf (sh : Shape) (R : List Record) (n : ℕ) : Type 0 where
   pub allowed : IsAllowed sh R (Begin begin)
 
 abbrev pub SessionsCanBegin : Type 0
-SessionsCanBegin = (sh : Shape) (R : List Record) (n : ℕ) → IsLawful sh R → 1 ≤ n → n ≤ 64 → has_open R n ≡ false → BeginOf sh R n
+SessionsCanBegin = (sh : Shape) (R : List Record) (n : ℕ) → IsLawful sh R → 1 ≤ n → n ≤ MOST_SESSIONS → has_open R n ≡ false → BeginOf sh R n

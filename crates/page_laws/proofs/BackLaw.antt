@@ -1,7 +1,7 @@
 -- The parts of a Back fit in turn.
 use Rattle.std.proofs.Common.{◌≡◌, ℕ, zero, suc, ◌+◌, ◌-◌, ◌*◌, ◌<◌, ◌≤◌, max, true, false, cond, ◌||◌, eqb, List, [], ◌∷◌, length, Option, Some, None, refl, sym, ◌∙◌, ap, ap₂, subst, arith, inl, inr, le_refl, true≢false, eqb-true, eq-eqb}
 use Rattle.seg_words.proofs.Lemmas.{cond-true, cases_Bool, and_parts}
-use Rattle.seg_words.specs.Types.{Shape, Slot, number_of_writer, as_told, row_size, writer_has_ended}
+use Rattle.seg_words.specs.Types.{Shape, Slot, number_of_writer, as_told, row_size, writer_has_ended, BLOCK_ROOM, SLOT_SIZE, LIST_ENTRY_SIZE, LEAST_LIST_ENTRIES}
 use Rattle.page_bytes.specs.Types.{HasSlotForm}
 use Rattle.row_block.specs.Types.{laid_out}
 use Rattle.redo_model.specs.Records.{Record, Back, RowPart, BackPart, BackRecord}
@@ -158,12 +158,12 @@ back_up (p ∷ ps) b n =
     let l = back_up ps b n in
     elim (eqb p.dba b) as (λ v. n ≤ cond v (max (suc p.slot) (slots_reached (restored ps) b n)) (slots_reached (restored ps) b n)) [ true ↦ omega (arith, l) | false ↦ l ]
 
-back_laid : (sh : Shape) (R : List Record) (k : BackRecord) (qs : List BackPart) (b : ℕ) → AreAllowed sh R → Every (BackSmall R) qs → laid_out (partly_back qs b (block_of R b)) ≤ 4032
+back_laid : (sh : Shape) (R : List Record) (k : BackRecord) (qs : List BackPart) (b : ℕ) → AreAllowed sh R → Every (BackSmall R) qs → laid_out (partly_back qs b (block_of R b)) ≤ BLOCK_ROOM
 back_laid sh R k qs b h x =
     let n = slot_count R b in
-    let f : ℕ → ℕ = λ j. 40 + length (placed_in (restored qs) b j (image R b j)).bytes in
-    let is : laid_out (partly_back qs b (block_of R b)) ≡ sum_below (slots_reached (restored qs) b n) f + 24 * (entry_count R b - 2) =
-    ap₂ (λ y z. y + 24 * (z - 2)) (slots_laid (Back (with_parts k qs) ∷ R) b) (entry_count_is R b) in
+    let f : ℕ → ℕ = λ j. SLOT_SIZE + length (placed_in (restored qs) b j (image R b j)).bytes in
+    let is : laid_out (partly_back qs b (block_of R b)) ≡ sum_below (slots_reached (restored qs) b n) f + LIST_ENTRY_SIZE * (entry_count R b - LEAST_LIST_ENTRIES) =
+    ap₂ (λ y z. y + LIST_ENTRY_SIZE * (z - LEAST_LIST_ENTRIES)) (slots_laid (Back (with_parts k qs) ∷ R) b) (entry_count_is R b) in
     let a = sum_more (slots_reached (restored qs) b n) n f (back_reached R qs b x) in
     let c = sum_less n f (size_at (ended_in R) (image R b)) (λ j l. let y = row_back R qs b j (own_length sh R b j h) x in omega (arith, y)) in
     let u = ((small sh R h).room b).used in
@@ -181,5 +181,5 @@ back_parts_fit_in_turn sh R k p done h o i =
       most = one.fits.few;
       bytes = one.within;
       form = one_has (λ (q : BackPart). HasSlotForm q.new) p k.parts o (effect_formed sh R (Back k) (TakesBack k) h refl);
-      size = subst (λ (ss : List Slot). laid_out (record { slots = ss; entries = entries_of R b }) ≤ 4032) (cond-true _ _ _ (eq-eqb b b refl)) size;
+      size = subst (λ (ss : List Slot). laid_out (record { slots = ss; entries = entries_of R b }) ≤ BLOCK_ROOM) (cond-true _ _ _ (eq-eqb b b refl)) size;
     }

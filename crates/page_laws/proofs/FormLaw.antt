@@ -1,7 +1,7 @@
 -- The images that an allowed record puts, and the parts that it keeps, are of the form that has a spelling, whatever their
 -- numbers are.
 use Rattle.std.proofs.Common.{◌≡◌, ℕ, suc, ◌+◌, ◌-◌, ◌<◌, ◌≤◌, true, false, not, List, [], ◌∷◌, length, map, Option, Some, None, find, refl, sym, ◌∙◌, ap, subst, arith, inl, inr, true≢false}
-use Rattle.seg_words.specs.Types.{AllByRecursion, Shape, Kind, Empty, Row, Head, Body, Slot, UndoAddr, number_of_writer, is_empty}
+use Rattle.seg_words.specs.Types.{AllByRecursion, Shape, Kind, Empty, Row, Head, Body, Slot, UndoAddr, number_of_writer, is_empty, OWN_BLOCKS, LEAST_UNDO_BLOCKS}
 use Rattle.page_bytes.specs.Types.{len_as, LinkIsThere, HasSlotForm}
 use Rattle.row_block.proofs.Held.{clean_form}
 use Rattle.undo_block.specs.Types.{PlaceIsThere, HasPartForm}
@@ -23,13 +23,13 @@ use Rattle.page_laws.proofs.TxnsLaw.{InRing, in_ring}
 
 -- the undo block that a record names isn't block 0
 
-next_there : (sh : Shape) (R : List Record) (u : ℕ) (o : Option ℕ) → ◌≡◌ {A = Option ℕ} (elim o [ None ↦ Some 37 | Some v ↦ find (λ b. not (has_holder R b)) (ring_after sh v) ]) (Some u) → 0 < u
-next_there sh R u None e = let same : 37 ≡ u = (let x : ◌≡◌ {A = Option ℕ} (Some 37) (Some u) = e in cc) in omega (arith, same)
+next_there : (sh : Shape) (R : List Record) (u : ℕ) (o : Option ℕ) → ◌≡◌ {A = Option ℕ} (elim o [ None ↦ Some OWN_BLOCKS | Some v ↦ find (λ b. not (has_holder R b)) (ring_after sh v) ]) (Some u) → 0 < u
+next_there sh R u None e = let same : OWN_BLOCKS ≡ u = (let x : ◌≡◌ {A = Option ℕ} (Some OWN_BLOCKS) (Some u) = e in cc) in omega (arith, same)
 next_there sh R u (Some v) e =
     let f = found_in (λ b. not (has_holder R b)) (ring_after sh v) u e in
-    elim (in_either u (blocks_from (suc v) (36 + sh.undo - v)) (blocks_from 37 (v - 37)) f.0) [
-      | inl y ↦ let from = (in_range u (suc v) (36 + sh.undo - v) y).0 in omega (arith, from)
-      | inr y ↦ let from = (in_range u 37 (v - 37) y).0 in omega (arith, from)
+    elim (in_either u (blocks_from (suc v) (OWN_BLOCKS - 1 + sh.undo - v)) (blocks_from OWN_BLOCKS (v - OWN_BLOCKS)) f.0) [
+      | inl y ↦ let from = (in_range u (suc v) (OWN_BLOCKS - 1 + sh.undo - v) y).0 in omega (arith, from)
+      | inr y ↦ let from = (in_range u OWN_BLOCKS (v - OWN_BLOCKS) y).0 in omega (arith, from)
     ]
 
 current_there : (sh : Shape) (R : List Record) (u : ℕ) → AreAllowed sh R → current_undo R ≡ Some u → 0 < u
@@ -210,7 +210,7 @@ place_there : (o : Option UndoAddr) → ((a : UndoAddr) → o ≡ Some a → 0 <
 place_there None h = tt
 place_there (Some a) h = h a refl
 
-last_there : (sh : Shape) (R : List Record) (t : ℕ) (a : UndoAddr) → 2 ≤ sh.undo → AreAllowed sh R → last_undo R t ≡ Some a → 0 < a.block
+last_there : (sh : Shape) (R : List Record) (t : ℕ) (a : UndoAddr) → LEAST_UNDO_BLOCKS ≤ sh.undo → AreAllowed sh R → last_undo R t ≡ Some a → 0 < a.block
 last_there sh R t a l h e = go (newest_of (standing R) t) refl e
   where
     go : (o : Option Step) → newest_of (standing R) t ≡ o → undo_of_step o ≡ Some a → 0 < a.block
@@ -224,10 +224,10 @@ abbrev Previous : Effect → Type 0
 Previous (Adds st) = PlaceIsThere st.previous
 Previous _ = Unit {0}
 
-row_previous : (sh : Shape) (R : List Record) (w : RowBody) → 2 ≤ sh.undo → AreAllowed sh R → MayChange R w → PlaceIsThere w.previous
+row_previous : (sh : Shape) (R : List Record) (w : RowBody) → LEAST_UNDO_BLOCKS ≤ sh.undo → AreAllowed sh R → MayChange R w → PlaceIsThere w.previous
 row_previous sh R w l h c = subst PlaceIsThere (sym c.previous) (place_there (last_undo R w.txn) (λ a e. last_there sh R w.txn a l h e))
 
-kind_previous : (sh : Shape) (R : List Record) (r : Record) → 2 ≤ sh.undo → AreAllowed sh R → IsKindAllowed sh R r → Previous (effect_of r)
+kind_previous : (sh : Shape) (R : List Record) (r : Record) → LEAST_UNDO_BLOCKS ≤ sh.undo → AreAllowed sh R → IsKindAllowed sh R r → Previous (effect_of r)
 kind_previous sh R (Insert w) l h a = row_previous sh R w l h a.change
 kind_previous sh R (Update w) l h a = row_previous sh R w l h a.change.change
 kind_previous sh R (Migrate w) l h (migrates_plain a) = row_previous sh R w l h a.change.change
@@ -238,5 +238,5 @@ kind_previous sh R (Delete w) l h (deletes_migrated a) = row_previous sh R w l h
 kind_previous sh R (Move m) l h a = tt
 kind_previous sh R _ l h a = tt
 
-pub parts_formed : (sh : Shape) (R : List Record) (r : Record) (st : Step) → 2 ≤ sh.undo → AreAllowed sh (r ∷ R) → effect_of r ≡ Adds st → AllByRecursion HasPartForm (map as_kept (held_by st st.parts))
+pub parts_formed : (sh : Shape) (R : List Record) (r : Record) (st : Step) → LEAST_UNDO_BLOCKS ≤ sh.undo → AreAllowed sh (r ∷ R) → effect_of r ≡ Adds st → AllByRecursion HasPartForm (map as_kept (held_by st st.parts))
 parts_formed sh R r st l h e = held_formed st st.parts (subst Previous e (kind_previous sh R r l h.0 h.1.kind)) (effect_formed sh R r (Adds st) h e).1

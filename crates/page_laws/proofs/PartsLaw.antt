@@ -1,7 +1,7 @@
 -- The parts of a step fit in turn.
 use Rattle.std.proofs.Common.{◌≡◌, ◌⊎◌, ℕ, suc, ◌+◌, ◌-◌, ◌*◌, ◌≤◌, max, true, false, cond, not, ◌||◌, eqb, List, [], ◌∷◌, ◌++◌, length, get_or, Option, Some, None, refl, sym, ◌∙◌, ap, ap₂, subst, arith, inl, inr, le_refl, le_trans, true≢false, eq-eqb, sum_by}
 use Rattle.seg_words.proofs.Lemmas.{cond-true, cases_Bool}
-use Rattle.seg_words.specs.Types.{Shape, Slot, ListEntry, Writer, By, At, new_slot, new_entry, put, row_size, slot_size, writer_has_ended}
+use Rattle.seg_words.specs.Types.{Shape, Slot, ListEntry, Writer, By, At, new_slot, new_entry, put, row_size, slot_size, writer_has_ended, BLOCK_ROOM, SLOT_SIZE, MOST_SLOTS, LIST_ENTRY_SIZE, LEAST_LIST_ENTRIES, MOST_LIST_ENTRIES}
 use Rattle.seg_base.proofs.Puts.{length-put}
 use Rattle.page_bytes.specs.Types.{HasSlotForm}
 use Rattle.row_block.specs.Types.{laid_out, CanPut, CanEnter}
@@ -220,26 +220,26 @@ all_ended : (w : Writer) → writer_has_ended (λ t. true) w ≡ true
 all_ended (By t) = refl
 all_ended (At c) = refl
 
-bare_size : (s : Slot) → slot_size (λ t. true) s ≡ 40 + length s.bytes
-bare_size s = ap (λ n. 40 + n) (size_ended (λ t. true) s (all_ended s.writer))
+bare_size : (s : Slot) → slot_size (λ t. true) s ≡ SLOT_SIZE + length s.bytes
+bare_size s = ap (λ n. SLOT_SIZE + n) (size_ended (λ t. true) s (all_ended s.writer))
 
-pub slots_laid : (R : List Record) (b : ℕ) → sum_by (slot_size (λ t. true)) (slots_of R b) ≡ sum_below (slot_count R b) (λ k. 40 + length (image R b k).bytes)
+pub slots_laid : (R : List Record) (b : ℕ) → sum_by (slot_size (λ t. true)) (slots_of R b) ≡ sum_below (slot_count R b) (λ k. SLOT_SIZE + length (image R b k).bytes)
 slots_laid R b =
     sum_places (slot_size (λ t. true)) new_slot (slots_of R b) ∙ ap (λ n. sum_below n (λ k. slot_size (λ t. true) (get_or (slots_of R b) k new_slot))) (count_is R b)
-    ∙ sum_same (slot_count R b) (λ k. slot_size (λ t. true) (get_or (slots_of R b) k new_slot)) (λ k. 40 + length (image R b k).bytes) (λ k. ap (slot_size (λ t. true)) (image_is R b k) ∙ bare_size (image R b k))
+    ∙ sum_same (slot_count R b) (λ k. slot_size (λ t. true) (get_or (slots_of R b) k new_slot)) (λ k. SLOT_SIZE + length (image R b k).bytes) (λ k. ap (slot_size (λ t. true)) (image_is R b k) ∙ bare_size (image R b k))
 
 entries_laid : (R : List Record) (w : Writer) (ps : List RowPart) (b : ℕ) → length (enter_by w ps b (entries_of R b)) ≡ count_entered w ps b (entry_count R b)
 entries_laid R (By t) ps b = entry_count_is (Insert (body t ps) ∷ R) b
 entries_laid R (At c) ps b = entry_count_is R b
 
-partly_is : (R : List Record) (w : Writer) (ps qs : List RowPart) (b : ℕ) → laid_out (partly w ps qs b (block_of R b)) ≡ sum_below (slots_reached (written ps) b (slot_count R b)) (λ k. 40 + length (placed_in (written ps) b k (image R b k)).bytes) + 24 * (count_entered w qs b (entry_count R b) - 2)
-partly_is R w ps qs b = ap₂ (λ x y. x + 24 * (y - 2)) (slots_laid (Insert (body 0 ps) ∷ R) b) (entries_laid R w qs b)
+partly_is : (R : List Record) (w : Writer) (ps qs : List RowPart) (b : ℕ) → laid_out (partly w ps qs b (block_of R b)) ≡ sum_below (slots_reached (written ps) b (slot_count R b)) (λ k. SLOT_SIZE + length (placed_in (written ps) b k (image R b k)).bytes) + LIST_ENTRY_SIZE * (count_entered w qs b (entry_count R b) - LEAST_LIST_ENTRIES)
+partly_is R w ps qs b = ap₂ (λ x y. x + LIST_ENTRY_SIZE * (y - LEAST_LIST_ENTRIES)) (slots_laid (Insert (body 0 ps) ∷ R) b) (entries_laid R w qs b)
 
 -- some images and some names leave a block that fits its page
 pub record PartlySmall (R : List Record) (w : Writer) (ps qs : List RowPart) (b : ℕ) : Type 0 where
-  pub size : laid_out (partly w ps qs b (block_of R b)) ≤ 4032
-  pub slots : slots_reached (written ps) b (slot_count R b) ≤ 100
-  pub entries : count_entered w qs b (entry_count R b) ≤ 8
+  pub size : laid_out (partly w ps qs b (block_of R b)) ≤ BLOCK_ROOM
+  pub slots : slots_reached (written ps) b (slot_count R b) ≤ MOST_SLOTS
+  pub entries : count_entered w qs b (entry_count R b) ≤ MOST_LIST_ENTRIES
 
 pub partly_small : (sh : Shape) (R : List Record) (st : Step) (ps qs : List RowPart) (b : ℕ) → StepKnown sh R st → AreSome st.parts ps → AreSome st.parts qs → PartlySmall R st.by ps qs b
 partly_small sh R st ps qs b x i j =
@@ -253,7 +253,7 @@ partly_small sh R st ps qs b x i j =
     let qu = some_have (PutSome R st) st.parts rs js x.puts in
     let qo = some_have (StatesIts R) st.parts rs js x.old in
     let over = beside_over sh R st qs st.by x refl (some_have (PutSome R st) st.parts qs j x.puts) in
-    let f : ℕ → ℕ = λ k. 40 + length (placed_in (written ps) b k (image R b k)).bytes in
+    let f : ℕ → ℕ = λ k. SLOT_SIZE + length (placed_in (written ps) b k (image R b k)).bytes in
     let g : ℕ → ℕ = size_at (ended_in R) (after R (step_of st both) b) in
     let a = sum_more (slots_reached (written ps) b n) (slots_reached (written both) b n) f (slots_more ps rs b n) in
     let c = sum_less (slots_reached (written both) b n) f g (λ k l. let y = length_after sh R st ps rs b k x pu po qu qo over in omega (arith, y)) in
@@ -282,11 +282,11 @@ can_put sh R st p ps qs x f g o i j =
       most = f.few;
       bytes = put_room R st pu.0 p pu.1;
       form = g;
-      size = subst (λ (ss : List Slot). laid_out (record { slots = ss; entries = enter_by st.by qs b (entries_of R b) }) ≤ 4032) (cond-true _ _ _ (eq-eqb b b refl)) small.size;
+      size = subst (λ (ss : List Slot). laid_out (record { slots = ss; entries = enter_by st.by qs b (entries_of R b) }) ≤ BLOCK_ROOM) (cond-true _ _ _ (eq-eqb b b refl)) small.size;
     }
 
-longer : (ss : List Slot) (es fs : List ListEntry) → length es ≡ length fs → laid_out (record { slots = ss; entries = es }) ≤ 4032 → laid_out (record { slots = ss; entries = fs }) ≤ 4032
-longer ss es fs e h = subst (λ n. sum_by (slot_size (λ t. true)) ss + 24 * (n - 2) ≤ 4032) e h
+longer : (ss : List Slot) (es fs : List ListEntry) → length es ≡ length fs → laid_out (record { slots = ss; entries = es }) ≤ BLOCK_ROOM → laid_out (record { slots = ss; entries = fs }) ≤ BLOCK_ROOM
+longer ss es fs e h = subst (λ n. sum_by (slot_size (λ t. true)) ss + LIST_ENTRY_SIZE * (n - LEAST_LIST_ENTRIES) ≤ BLOCK_ROOM) e h
 
 can_enter : (sh : Shape) (R : List Record) (st : Step) (p : RowPart) (ps qs : List RowPart) (t e : ℕ) → StepKnown sh R st → PartFits R p → IsOneOf p st.parts → AreSome st.parts ps → AreSome st.parts qs → st.by ≡ By t → p.entry ≡ Some e → CanEnter (partly st.by ps qs p.dba (block_of R p.dba)) e
 can_enter sh R st p ps qs t e x f o i j by en =
@@ -296,9 +296,9 @@ can_enter sh R st p ps qs t e x f o i j by en =
     let small = partly_small sh R st ps (p ∷ qs) b x i (o, j) in
     let ss = place_all (written ps) b (slots_of R b) in
     let es = entries_of R b in
-    let size : laid_out (record { slots = ss; entries = enter_by (By t) (p ∷ qs) b es }) ≤ 4032 = subst (λ v. laid_out (record { slots = ss; entries = enter_by v (p ∷ qs) b es }) ≤ 4032) by small.size in
-    let one : laid_out (record { slots = ss; entries = enter_at p.entry t (enter_all qs t b es) }) ≤ 4032 = subst (λ (xs : List ListEntry). laid_out (record { slots = ss; entries = xs }) ≤ 4032) (cond-true _ _ _ (eq-eqb b b refl)) size in
-    let two : laid_out (record { slots = ss; entries = put new_entry (enter_all qs t b es) e (record { txn = t; number = 0 }) }) ≤ 4032 = subst (λ z. laid_out (record { slots = ss; entries = enter_at z t (enter_all qs t b es) }) ≤ 4032) en one in
+    let size : laid_out (record { slots = ss; entries = enter_by (By t) (p ∷ qs) b es }) ≤ BLOCK_ROOM = subst (λ v. laid_out (record { slots = ss; entries = enter_by v (p ∷ qs) b es }) ≤ BLOCK_ROOM) by small.size in
+    let one : laid_out (record { slots = ss; entries = enter_at p.entry t (enter_all qs t b es) }) ≤ BLOCK_ROOM = subst (λ (xs : List ListEntry). laid_out (record { slots = ss; entries = xs }) ≤ BLOCK_ROOM) (cond-true _ _ _ (eq-eqb b b refl)) size in
+    let two : laid_out (record { slots = ss; entries = put new_entry (enter_all qs t b es) e (record { txn = t; number = 0 }) }) ≤ BLOCK_ROOM = subst (λ z. laid_out (record { slots = ss; entries = enter_at z t (enter_all qs t b es) }) ≤ BLOCK_ROOM) en one in
     subst (λ v. CanEnter (partly v ps qs b (block_of R b)) e) (sym by) (record {
       at = (let c : length (enter_all qs t b es) ≡ count_entered (By t) qs b n = entries_laid R (By t) qs b in let u = entered_up (By t) qs b n in let a = w.0 in omega (arith, c, u, a));
       most = w.1;

@@ -1,7 +1,7 @@
 -- Undo pages of a lawful list.
 use Rattle.std.proofs.Common.{◌≡◌, ℕ, suc, ◌+◌, ◌^◌, ◌<◌, ◌≤◌, true, false, cond, eqb, List, [], ◌∷◌, ◌++◌, length, map, Option, Some, None, refl, sym, ◌∙◌, ap, subst, arith, ltb-false, eq-eqb, sum_by}
 use Rattle.seg_words.proofs.Lemmas.{cond-true, not-true, sum_by-cons}
-use Rattle.seg_words.specs.Types.{AllByRecursion, Shape, Kind, Empty, Row, Head, Body, Slot, UndoAddr, Rowid, Writer, By, At, UndoPlace, is_shape}
+use Rattle.seg_words.specs.Types.{AllByRecursion, Shape, Kind, Empty, Row, Head, Body, Slot, UndoAddr, Rowid, Writer, By, At, UndoPlace, is_shape, BLOCK_ROOM, MOST_SLOTS}
 use Rattle.page_bytes.specs.Types.{len_as, room_as, UndoFits, LinkFits, IsSlot}
 use Rattle.undo_block.specs.Again.{few_parts}
 use Rattle.undo_block.specs.Types.{used_by, part_size as kept_size, IsPart, PlaceFits}
@@ -66,7 +66,7 @@ abbrev HeldOk : HeldPart → Type 0
 HeldOk h = IsPart (as_kept h) × AreBytes h
 
 abbrev PartOk : List Record → RowPart → Type 0
-PartOk R p = (p.dba < 2 ^ 32) × (p.slot < 100) × (p.old ≡ image R p.dba p.slot)
+PartOk R p = (p.dba < 2 ^ 32) × (p.slot < MOST_SLOTS) × (p.old ≡ image R p.dba p.slot)
 
 parts_ok : (R : List Record) (ps : List RowPart) → AllByRecursion IsRowPart ps → EachFits R ps → Every (PartOk R) ps
 parts_ok R [] h f = tt
@@ -167,7 +167,7 @@ undo_takes_parts sh R r st l h e =
     let ring = current_bound sh R st.undo.block l h.0 b.undo.current in
     let used = used_is sh R st.undo.block h.0 in
     let size = size_held st st.parts in
-    let fits = ltb-false 4032 (undo_used R st.undo.block + parts_size st.parts) (not-true _ b.undo.fits) in
+    let fits = ltb-false BLOCK_ROOM (undo_used R st.undo.block + parts_size st.parts) (not-true _ b.undo.fits) in
     record {
       current = b.undo.current;
       from = ring.0;

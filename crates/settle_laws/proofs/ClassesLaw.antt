@@ -1,7 +1,7 @@
 -- What a block counts stays.
 use Rattle.std.proofs.Common.{◌≡◌, ℕ, zero, suc, ◌+◌, ◌-◌, ◌*◌, ◌≤◌, Bool, false, cond, not, ◌&&◌, ◌||◌, eqb, List, [], ◌∷◌, length, get_or, refl, sym, ◌∙◌, ap, arith, ne_eqb, eq-eqb}
 use Rattle.seg_words.proofs.Lemmas.{or_parts}
-use Rattle.seg_words.specs.Types.{Shape, Slot, Writer, By, At, new_slot, class_of, writer_has_ended, used_of as used_by}
+use Rattle.seg_words.specs.Types.{Shape, Slot, Writer, By, At, new_slot, class_of, writer_has_ended, used_of as used_by, BLOCK_ROOM, SLOT_SIZE, LIST_ENTRY_SIZE, LEAST_LIST_ENTRIES}
 use Rattle.redo_model.specs.Records.{Record, Begin, Commit, Ended}
 use Rattle.redo_model.specs.Model.{txn_effect, txn_count, is_active, ended_in, is_by, standing, slots_name, slots_of, block_of, image, slot_count, entry_count, Made, makers, AreAllowed}
 use Rattle.redo_model.proofs.Bridge.{image_is}
@@ -18,7 +18,7 @@ use Rattle.settle_laws.specs.Classes.{ends_named, ClassesStay}
 pub same_used : (e f : ℕ → Bool) (R : List Record) (b : ℕ) → ((k : ℕ) → writer_has_ended e (image R b k).writer ≡ writer_has_ended f (image R b k).writer) → used_by e (block_of R b) ≡ used_by f (block_of R b)
 same_used e f R b h =
     used_is e R b
-    ∙ ap (λ n. n + 24 * (entry_count R b - 2)) (sum_same (slot_count R b) (size_at e (image R b)) (size_at f (image R b)) (λ k. ap (λ v. 40 + cond v (length (image R b k).bytes) (image R b k).room) (h k)))
+    ∙ ap (λ n. n + LIST_ENTRY_SIZE * (entry_count R b - LEAST_LIST_ENTRIES)) (sum_same (slot_count R b) (size_at e (image R b)) (size_at f (image R b)) (λ k. ap (λ v. SLOT_SIZE + cond v (length (image R b k).bytes) (image R b k).room) (h k)))
     ∙ sym (used_is f R b)
 
 -- whom a block names has begun
@@ -70,6 +70,6 @@ classes_stay sh R r b h c n =
     ap (used_by (ended_in (r ∷ R))) same ∙ same_used (ended_in (r ∷ R)) (ended_in R) R b (λ k. writers_same sh R r b k h n) in
     record {
       used = used;
-      free = ap (λ x. 4032 - x) used;
-      class = λ p. ap (λ x. class_of (4032 - x) p) used;
+      free = ap (λ x. BLOCK_ROOM - x) used;
+      class = λ p. ap (λ x. class_of (BLOCK_ROOM - x) p) used;
     }

@@ -1,7 +1,7 @@
 -- What a Clean settles.
 use Rattle.std.proofs.Common.{◌≡◌, ℕ, zero, suc, ◌+◌, ◌-◌, ◌*◌, ◌≤◌, ◌<◌, Bool, true, false, cond, not, ◌&&◌, eqb, leb, List, [], ◌∷◌, length, get_or, Option, Some, None, refl, sym, ◌∙◌, ap, arith, inl, inr, true≢false, eq-eqb, leb-true, leb-false}
 use Rattle.seg_words.proofs.Lemmas.{cond-true, cond-false, cases_Bool, or_left, or_right, and_from}
-use Rattle.seg_words.specs.Types.{Shape, Slot, ListEntry, Writer, By, At, new_slot, new_entry, class_of, number_of, number_of_writer, as_told, clean_slot, entry_as_told, clean_entry, row_size, writer_has_ended, used_of as used_by}
+use Rattle.seg_words.specs.Types.{Shape, Slot, ListEntry, Writer, By, At, new_slot, new_entry, class_of, number_of, number_of_writer, as_told, clean_slot, entry_as_told, clean_entry, row_size, writer_has_ended, used_of as used_by, BLOCK_ROOM, SLOT_SIZE, LIST_ENTRY_SIZE, LEAST_LIST_ENTRIES}
 use Rattle.redo_model.specs.Records.{Record, Clean, Commit, CleanRecord}
 use Rattle.redo_model.specs.Model.{commit_count, is_by, is_active, ended_in, has_begun, has_ended, commit_number, is_forgotten, slots_name, entries_name, number_or_zero, stated_number, CleanAllowed, slots_of, entries_of, block_of, image, slot_count, entry, entry_count, AreAllowed}
 use Rattle.redo_model.proofs.Bridge.{image_is, count_is, entry_is}
@@ -126,7 +126,7 @@ over sh R c (At m) n a e = refl
 clean_used : (sh : Shape) (R : List Record) (c : CleanRecord) (b : ℕ) → CleanAllowed sh R c → used_by (ended_in R) (block_of (Clean c ∷ R) b) ≡ used_by (ended_in R) (block_of R b)
 clean_used sh R c b a =
     used_is (ended_in R) (Clean c ∷ R) b
-    ∙ ap (λ n. n + 24 * (entry_count R b - 2)) (sum_same (slot_count R b) (size_at (ended_in R) (image (Clean c ∷ R) b)) (size_at (ended_in R) (image R b)) (λ k. ap (λ n. 40 + n) (each k)))
+    ∙ ap (λ n. n + LIST_ENTRY_SIZE * (entry_count R b - LEAST_LIST_ENTRIES)) (sum_same (slot_count R b) (size_at (ended_in R) (image (Clean c ∷ R) b)) (size_at (ended_in R) (image R b)) (λ k. ap (λ n. SLOT_SIZE + n) (each k)))
     ∙ sym (used_is (ended_in R) R b)
   where
     each : (k : ℕ) → row_size (ended_in R) (image (Clean c ∷ R) b k) ≡ row_size (ended_in R) (image R b k)
@@ -142,5 +142,5 @@ cleans_settle sh R c h =
       slots = λ k t d e n f. clean_slots sh R c k t d h (ap (λ (s : Slot). s.writer) (sym (cond-true _ _ _ here)) ∙ e) n f;
       entries = λ i t l e. clean_entries sh R c i t h l (ap (λ (x : ListEntry). x.txn) (sym (cond-true _ _ _ here)) ∙ e);
       used = λ b. clean_used sh R c b h.1.kind;
-      class = λ p b. ap (λ x. class_of (4032 - x) p) (clean_used sh R c b h.1.kind);
+      class = λ p b. ap (λ x. class_of (BLOCK_ROOM - x) p) (clean_used sh R c b h.1.kind);
     }

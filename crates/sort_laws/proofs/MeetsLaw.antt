@@ -2,7 +2,7 @@
 use Rattle.std.proofs.Common.{◌≡◌, ◌⊎◌, ℕ, zero, suc, ◌+◌, ◌-◌, ◌*◌, ◌%◌, ◌<◌, ◌≤◌, max, true, false, cond, eqb, List, [], ◌∷◌, ◌++◌, length, Option, Some, None, refl, sym, ◌∙◌, ap, ap₂, subst, arith, inl, inr, length-append, true≢false, eq-eqb}
 use Rattle.seg_words.proofs.Lemmas.{cond-true}
 use Rattle.std.proofs.lemmas.Nat.{mod-mul-add}
-use Rattle.seg_words.specs.Types.{Shape, Slot, new_slot, number_of_writer, as_told, clean_slot, first_block, is_shape, is_empty}
+use Rattle.seg_words.specs.Types.{Shape, Slot, new_slot, number_of_writer, as_told, clean_slot, first_block, is_shape, is_empty, MOST_TABLES, OWN_BLOCKS, LEAST_EXTENT_BLOCKS, MOST_EXTENT_BLOCKS}
 use Rattle.redo_model.specs.Records.{Record, Extend, Begin, Reuse, Insert, Update, Migrate, Return, Delete, Commit, Back, Ended, Move, ExtendRecord, FormatBlockRecord, ClassRecord}
 use Rattle.redo_model.specs.Model.{Step, Effect, effect_of, txn_count, is_active, has_begun, Extent, extents_of, data_blocks, high_mark, extent_at, block_in, group_start, changed_image, image, ExtendAllowed, FormatAllowed, ClassAllowed, StatesBitmaps, IsKindAllowed, IsOverflow, AreAllowed}
 use Rattle.redo_model.specs.Effects.{Still, Formats, Adds, TakesBack, Cleans}
@@ -51,15 +51,15 @@ table_counts sh R _ h a e = absurd (true≢false (sym e))
 
 -- bitmaps of a data block
 
-first_is : (sh : Shape) (x b : ℕ) → 8 ≤ sh.extent → first_block sh x ≤ b → b < first_block sh x + sh.extent → first_of sh b ≡ first_block sh x
+first_is : (sh : Shape) (x b : ℕ) → LEAST_EXTENT_BLOCKS ≤ sh.extent → first_block sh x ≤ b → b < first_block sh x + sh.extent → first_of sh b ≡ first_block sh x
 first_is sh x b w l u =
     let n = b - first_block sh x in
-    let e1 : b - (37 + sh.undo) ≡ x * sh.extent + n = omega (arith, l) in
+    let e1 : b - (OWN_BLOCKS + sh.undo) ≡ x * sh.extent + n = omega (arith, l) in
     let e2 : max sh.extent 1 ≡ sh.extent = omega (arith, w) in
-    let e3 : (b - (37 + sh.undo)) % max sh.extent 1 ≡ n = ap₂ (λ p q. p % q) e1 e2 ∙ mod-mul-add x sh.extent n (omega (arith, l, u)) in
+    let e3 : (b - (OWN_BLOCKS + sh.undo)) % max sh.extent 1 ≡ n = ap₂ (λ p q. p % q) e1 e2 ∙ mod-mul-add x sh.extent n (omega (arith, l, u)) in
     ap (λ k. b - k) e3 ∙ (let z : b - (b - first_block sh x) ≡ first_block sh x = omega (arith, l) in z)
 
-maps_fit : (sh : Shape) (R : List Record) (o b l2 l3 index : ℕ) → is_shape sh ≡ true → AreAllowed sh R → 1 ≤ o → o ≤ 32 → is_in b (data_blocks sh R o) ≡ true → StatesBitmaps sh R o b l2 l3 index → MapsFit sh R b l2 l3 index
+maps_fit : (sh : Shape) (R : List Record) (o b l2 l3 index : ℕ) → is_shape sh ≡ true → AreAllowed sh R → 1 ≤ o → o ≤ MOST_TABLES → is_in b (data_blocks sh R o) ≡ true → StatesBitmaps sh R o b l2 l3 index → MapsFit sh R b l2 l3 index
 maps_fit sh R o b l2 l3 index s h one most here a =
     let lim = limits sh s in
     let es = extents_of R o in
@@ -82,7 +82,7 @@ maps_fit sh R o b l2 l3 index s h one most here a =
       second = subst (λ n. sort_of sh R n ≡ Second) (sym l2_is) ((heads_in sh R s h o (group_start index) g.0 g.1).second (group_twice index));
       third = subst (λ n. sort_of sh R n ≡ Third) (sym l3_is) ((heads_in sh R s h o 0 z.0 z.1).third refl);
       from = subst (λ n. n ≤ b) (sym first) (omega (arith, from));
-      to = subst (λ n. b - n < 64) (sym first) (omega (arith, from, to, v));
+      to = subst (λ n. b - n < MOST_EXTENT_BLOCKS) (sym first) (omega (arith, from, to, v));
       few = omega (arith, same, below, few);
     }
   where

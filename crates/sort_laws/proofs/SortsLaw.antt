@@ -1,7 +1,7 @@
 -- Sorts of pages.
-use Rattle.std.proofs.Common.{◌≡◌, ◌⊎◌, ℕ, zero, suc, ◌+◌, ◌%◌, ◌<◌, ◌≤◌, min, Bool, true, false, cond, not, ◌||◌, eqb, ltb, leb, List, [], ◌∷◌, ◌++◌, length, take, Option, Some, None, refl, sym, ◌∙◌, ap, subst, arith, inl, inr, true≢false, eqb-true, eq-eqb, ne_eqb, leb-true, ltb-true, ltb-false, le-leb, lt-ltb}
+use Rattle.std.proofs.Common.{◌≡◌, ◌⊎◌, ℕ, zero, suc, ◌+◌, ◌%◌, ◌<◌, ◌≤◌, min, Bool, true, false, cond, not, ◌||◌, eqb, ltb, leb, List, [], ◌∷◌, ◌++◌, length, take, Option, Some, None, refl, sym, ◌∙◌, ap, subst, arith, inl, inr, true≢false, eqb-true, eq-eqb, ne_eqb, leb-true, ltb-true, ltb-false, le-leb, lt-ltb, ◌*◌}
 use Rattle.seg_words.proofs.Lemmas.{cond-true, cond-false, cases_Bool, eqb-false, or_cases, or_left, or_right, and_parts, and_from, not-true}
-use Rattle.seg_words.specs.Types.{Shape, first_block, is_extent, is_shape, head_blocks}
+use Rattle.seg_words.specs.Types.{Shape, first_block, is_extent, is_shape, head_blocks, MOST_TABLES, MOST_EXTENTS, EXTENTS_OF_L2, OWN_BLOCKS, LEAST_EXTENT_BLOCKS}
 use Rattle.redo_model.specs.Records.{Record, Table, Movement, Extend, FormatBlock, Class, Advance, Lower, Begin, Reuse, Insert, Update, Migrate, Return, Delete, Commit, Back, Ended, Move, Clean, ExtendRecord, BeginRecord}
 use Rattle.redo_model.specs.Model.{txn_count, Extent, extents_of, in_extent, data_blocks, high_mark, is_formatted, IsTable, has_extent, is_taken, is_free_extent, extent_at, block_in, group_start, undo_sequence, ExtendAllowed, IsKindAllowed, AreAllowed}
 use Rattle.redo_laws.specs.Among.{is_in}
@@ -85,37 +85,37 @@ has_number sh R o i e h x = a_table sh R o (segments sh R h) (has_table sh R o i
 
 -- groups
 
-group_is : (i : ℕ) → i < 900 → i % 300 ≡ 0 → group_start i ≡ i
-group_is i l m = elim (cases_Bool (ltb i 300)) [
-  | inl y ↦ cond-true _ _ _ y ∙ (let k = ltb-true i 300 y in omega (arith, k, m))
-  | inr f ↦ cond-false _ _ _ f ∙ elim (cases_Bool (ltb i 600)) [
-    | inl y ↦ cond-true _ _ _ y ∙ (let k = ltb-true i 600 y in let j = ltb-false i 300 f in omega (arith, k, j, m))
-    | inr g ↦ cond-false _ _ _ g ∙ (let j = ltb-false i 600 g in omega (arith, l, j, m))
+group_is : (i : ℕ) → i < MOST_EXTENTS → i % EXTENTS_OF_L2 ≡ 0 → group_start i ≡ i
+group_is i l m = elim (cases_Bool (ltb i EXTENTS_OF_L2)) [
+  | inl y ↦ cond-true _ _ _ y ∙ (let k = ltb-true i EXTENTS_OF_L2 y in omega (arith, k, m))
+  | inr f ↦ cond-false _ _ _ f ∙ elim (cases_Bool (ltb i (2 * EXTENTS_OF_L2))) [
+    | inl y ↦ cond-true _ _ _ y ∙ (let k = ltb-true i (2 * EXTENTS_OF_L2) y in let j = ltb-false i EXTENTS_OF_L2 f in omega (arith, k, j, m))
+    | inr g ↦ cond-false _ _ _ g ∙ (let j = ltb-false i (2 * EXTENTS_OF_L2) g in omega (arith, l, j, m))
   ]
 ]
 
 pub group_below : (i : ℕ) → group_start i ≤ i
-group_below i = elim (cases_Bool (ltb i 300)) [
+group_below i = elim (cases_Bool (ltb i EXTENTS_OF_L2)) [
   | inl y ↦ subst (λ n. n ≤ i) (sym (cond-true _ _ _ y)) (omega arith)
-  | inr f ↦ subst (λ n. n ≤ i) (sym (cond-false _ _ _ f)) (elim (cases_Bool (ltb i 600)) [
-    | inl y ↦ subst (λ n. n ≤ i) (sym (cond-true _ _ _ y)) (let j = ltb-false i 300 f in omega (arith, j))
-    | inr g ↦ subst (λ n. n ≤ i) (sym (cond-false _ _ _ g)) (let j = ltb-false i 600 g in omega (arith, j))
+  | inr f ↦ subst (λ n. n ≤ i) (sym (cond-false _ _ _ f)) (elim (cases_Bool (ltb i (2 * EXTENTS_OF_L2))) [
+    | inl y ↦ subst (λ n. n ≤ i) (sym (cond-true _ _ _ y)) (let j = ltb-false i EXTENTS_OF_L2 f in omega (arith, j))
+    | inr g ↦ subst (λ n. n ≤ i) (sym (cond-false _ _ _ g)) (let j = ltb-false i (2 * EXTENTS_OF_L2) g in omega (arith, j))
   ])
 ]
 
-group_whole : (i : ℕ) → group_start i ≡ i → i % 300 ≡ 0
-group_whole i e = elim (cases_Bool (ltb i 300)) [
+group_whole : (i : ℕ) → group_start i ≡ i → i % EXTENTS_OF_L2 ≡ 0
+group_whole i e = elim (cases_Bool (ltb i EXTENTS_OF_L2)) [
   | inl y ↦ (let z : 0 ≡ i = sym (cond-true _ _ _ y) ∙ e in omega (arith, z))
-  | inr f ↦ elim (cases_Bool (ltb i 600)) [
-    | inl y ↦ (let z : 300 ≡ i = sym (cond-true _ _ _ y) ∙ sym (cond-false _ _ _ f) ∙ e in omega (arith, z))
-    | inr g ↦ (let z : 600 ≡ i = sym (cond-false _ _ _ g) ∙ sym (cond-false _ _ _ f) ∙ e in omega (arith, z))
+  | inr f ↦ elim (cases_Bool (ltb i (2 * EXTENTS_OF_L2))) [
+    | inl y ↦ (let z : EXTENTS_OF_L2 ≡ i = sym (cond-true _ _ _ y) ∙ sym (cond-false _ _ _ f) ∙ e in omega (arith, z))
+    | inr g ↦ (let z : 2 * EXTENTS_OF_L2 ≡ i = sym (cond-false _ _ _ g) ∙ sym (cond-false _ _ _ f) ∙ e in omega (arith, z))
   ]
 ]
 
 pub group_twice : (i : ℕ) → group_start (group_start i) ≡ group_start i
-group_twice i = elim (ltb i 300) as (λ v. group_start (cond v 0 (cond (ltb i 600) 300 600)) ≡ cond v 0 (cond (ltb i 600) 300 600)) [
+group_twice i = elim (ltb i EXTENTS_OF_L2) as (λ v. group_start (cond v 0 (cond (ltb i (2 * EXTENTS_OF_L2)) EXTENTS_OF_L2 (2 * EXTENTS_OF_L2))) ≡ cond v 0 (cond (ltb i (2 * EXTENTS_OF_L2)) EXTENTS_OF_L2 (2 * EXTENTS_OF_L2))) [
   | true ↦ refl
-  | false ↦ elim (ltb i 600) as (λ w. group_start (cond w 300 600) ≡ cond w 300 600) [ true ↦ refl | false ↦ refl ]
+  | false ↦ elim (ltb i (2 * EXTENTS_OF_L2)) as (λ w. group_start (cond w EXTENTS_OF_L2 (2 * EXTENTS_OF_L2)) ≡ cond w EXTENTS_OF_L2 (2 * EXTENTS_OF_L2)) [ true ↦ refl | false ↦ refl ]
 ]
 
 -- where the bitmaps of a new extent stand: at the new extent, or at one that was there
@@ -163,14 +163,14 @@ extent_fits : (sh : Shape) (x : ℕ) → Limits sh → is_extent sh x ≡ true �
 extent_fits sh x l e = let k = leb-true (first_block sh x + sh.extent) sh.blocks e in let m = l.most in let f = l.extent_from in omega (arith, k, m, f)
 
 free_whole : (sh : Shape) (R : List Record) (x : ℕ) → is_free_extent sh R x ≡ true → is_extent sh x ≡ true
-free_whole sh R x f = (and_parts (is_extent sh x) (not (is_taken R 32 x)) f).0
+free_whole sh R x f = (and_parts (is_extent sh x) (not (is_taken R MOST_TABLES x)) f).0
 
 -- the first block of a new extent, as the record touches it
 first_touched : (sh : Shape) (R : List Record) (x : ExtendRecord) → Limits sh → ExtendAllowed sh R x → min (first_block sh x.extent) 4294967295 ≡ first_block sh x.extent
 first_touched sh R x l a = let k = extent_fits sh x.extent l (free_whole sh R x.extent a.extent.free) in omega (arith, k)
 
 -- a block of another extent isn't in the new one
-old_out : (sh : Shape) (R : List Record) (x : ExtendRecord) (o i d n : ℕ) (g : Extent) → Limits sh → IsNumber o → ExtendAllowed sh R x → extent_at (extents_of R o) i ≡ Some g → d ≡ first_block sh g.number + n → n < 8 → in_extent sh x.extent d ≡ false
+old_out : (sh : Shape) (R : List Record) (x : ExtendRecord) (o i d n : ℕ) (g : Extent) → Limits sh → IsNumber o → ExtendAllowed sh R x → extent_at (extents_of R o) i ≡ Some g → d ≡ first_block sh g.number + n → n < LEAST_EXTENT_BLOCKS → in_extent sh x.extent d ≡ false
 old_out sh R x o i d n g l num a at e m =
     let f = l.extent_from in
     apart sh x.extent g.number d (λ same. free_has sh R o x.extent num a.extent.free (subst (λ z. has_extent (extents_of R o) z ≡ true) same (found_has (extents_of R o) i g at))) (omega (arith, e)) (omega (arith, e, m, f))
@@ -183,15 +183,15 @@ l3_map sh R x a = subst (λ d. MapAt sh R x 2 d 0) (sym a.l3) (map_at sh R x 2 0
 
 sort_extend : (sh : Shape) (R : List Record) (x : ExtendRecord) (d : ℕ) (s : Sort) → Limits sh → ExtendAllowed sh R x → in_extent sh x.extent d ≡ false → is_in d (touched_sorts sh (Extend x)) ≡ true → sort_after (Extend x) d s ≡ s
 sort_extend sh R x d s l a out m =
-    (elim (eqb d x.l2) as (λ v. eqb d x.l2 ≡ v → cond v (cond (eqb (x.index % 300) 0) Second s) (cond (eqb d x.l3) (cond (eqb x.index 0) Third s) First) ≡ s) [
-      | true ↦ λ y. both_same (eqb (x.index % 300) 0) s Second (λ z. absurd (not_l2 (eqb-true d x.l2 y) (eqb-true (x.index % 300) 0 z)))
+    (elim (eqb d x.l2) as (λ v. eqb d x.l2 ≡ v → cond v (cond (eqb (x.index % EXTENTS_OF_L2) 0) Second s) (cond (eqb d x.l3) (cond (eqb x.index 0) Third s) First) ≡ s) [
+      | true ↦ λ y. both_same (eqb (x.index % EXTENTS_OF_L2) 0) s Second (λ z. absurd (not_l2 (eqb-true d x.l2 y) (eqb-true (x.index % EXTENTS_OF_L2) 0 z)))
       | false ↦ λ y. (elim (eqb d x.l3) as (λ v. eqb d x.l3 ≡ v → cond v (cond (eqb x.index 0) Third s) First ≡ s) [
         | true ↦ λ z. both_same (eqb x.index 0) s Third (λ w. absurd (not_l3 (eqb-true d x.l3 z) (eqb-true x.index 0 w)))
         | false ↦ λ z. absurd (not_first y z)
       ]) refl
     ]) refl
   where
-    not_l2 : d ≡ x.l2 → x.index % 300 ≡ 0 → ⊥
+    not_l2 : d ≡ x.l2 → x.index % EXTENTS_OF_L2 ≡ 0 → ⊥
     not_l2 e z = elim (l2_map sh R x a).place [
       | inl p ↦ (let f = l.extent_from in true≢false (sym (in_new sh x.extent 1 (omega (arith, f))) ∙ ap (in_extent sh x.extent) (sym p.1 ∙ sym e) ∙ out))
       | inr p ↦ (let g = group_is x.index a.few z in let q = p.3 in absurd (omega (arith, g, q)))
@@ -229,7 +229,7 @@ sort_clear sh R r d l a c = both_same (is_in d (touched_sorts sh r)) (sort_of sh
 
 record IsRows (sh : Shape) (R : List Record) (b : ℕ) : Type 0 where
   sort : sort_of sh R b ≡ Rows
-  from : 37 + sh.undo ≤ b
+  from : OWN_BLOCKS + sh.undo ≤ b
 
 abbrev FormattedIn : Shape → List Record → Type 0
 FormattedIn sh R = (b : ℕ) → is_formatted sh R b ≡ true → IsRows sh R b
@@ -237,7 +237,7 @@ FormattedIn sh R = (b : ℕ) → is_formatted sh R b ≡ true → IsRows sh R b
 stays_rows : (sh : Shape) (R : List Record) (r : Record) (b : ℕ) → Limits sh → IsKindAllowed sh R r → (IsRows sh R b → Clear sh r b (sort_of sh R b)) → IsRows sh R b → IsRows sh (r ∷ R) b
 stays_rows sh R r b l a c h = record { sort = sort_clear sh R r b l a (c h) ∙ h.sort; from = h.from }
 
-format_from : (sh : Shape) (R : List Record) (o d : ℕ) → is_in d (data_blocks sh R o) ≡ true → 37 + sh.undo ≤ d
+format_from : (sh : Shape) (R : List Record) (o d : ℕ) → is_in d (data_blocks sh R o) ≡ true → OWN_BLOCKS + sh.undo ≤ d
 format_from sh R o d h = let y = in_data sh 0 (extents_of R o) d h in let f = y.from in omega (arith, f)
 
 formatted_step : (sh : Shape) (R : List Record) (r : Record) → Limits sh → AreAllowed sh R → IsKindAllowed sh R r → FormattedIn sh R → FormattedIn sh (r ∷ R)
@@ -245,7 +245,7 @@ formatted_step sh R (FormatBlock f) l h a k b x =
     (elim (eqb f.dba b) as (λ v. eqb f.dba b ≡ v → (v || is_formatted sh R b) ≡ true → IsRows sh (FormatBlock f ∷ R) b) [
       | true ↦ λ y z. record {
         sort = cond-true _ _ _ (or_left (eqb f.dba b) _ y) ∙ cond-true _ _ _ y;
-        from = subst (λ d. 37 + sh.undo ≤ d) (eqb-true f.dba b y) (format_from sh R f.obj f.dba (in_take f.dba (high_mark R f.obj) (data_blocks sh R f.obj) (format_first sh R f a).0));
+        from = subst (λ d. OWN_BLOCKS + sh.undo ≤ d) (eqb-true f.dba b y) (format_from sh R f.obj f.dba (in_take f.dba (high_mark R f.obj) (data_blocks sh R f.obj) (format_first sh R f a).0));
       }
       | false ↦ λ y z. stays_rows sh R (FormatBlock f) b l a (λ q. y) (k b z)
     ]) refl x
@@ -278,8 +278,8 @@ formatted_in sh (r ∷ R) l h b x = formatted_step sh R r l h.0 h.1.kind (format
 
 record IsUndo (sh : Shape) (R : List Record) (u : ℕ) : Type 0 where
   sort : sort_of sh R u ≡ Undo
-  from : 37 ≤ u
-  to : u < 37 + sh.undo
+  from : OWN_BLOCKS ≤ u
+  to : u < OWN_BLOCKS + sh.undo
 
 abbrev UsedIn : Shape → List Record → Type 0
 UsedIn sh R = (u : ℕ) → 1 ≤ undo_sequence R u → IsUndo sh R u
@@ -293,7 +293,7 @@ used_step sh R (Reuse q) l h a k u x =
       | true ↦ λ y z.
           let b = reuse_bound sh R q.block l.undo_from h a.block.next in
           let m : is_in u (touched_sorts sh (Reuse q)) ≡ true = or_right (eqb 1 u) _ (or_left (eqb q.block u) _ y) in
-          record { sort = cond-true _ _ _ m ∙ cond-true _ _ _ y; from = subst (λ d. 37 ≤ d) (eqb-true q.block u y) b.0; to = subst (λ d. d < 37 + sh.undo) (eqb-true q.block u y) b.1 }
+          record { sort = cond-true _ _ _ m ∙ cond-true _ _ _ y; from = subst (λ d. OWN_BLOCKS ≤ d) (eqb-true q.block u y) b.0; to = subst (λ d. d < OWN_BLOCKS + sh.undo) (eqb-true q.block u y) b.1 }
       | false ↦ λ y z. stays_undo sh R (Reuse q) u l a (λ w. y) (k u z)
     ]) refl x
 used_step sh R (FormatBlock f) l h a k u x = stays_undo sh R (FormatBlock f) u l a (λ w. ne_eqb f.dba u (λ e. (let m = format_from sh R f.obj f.dba (in_take f.dba (high_mark R f.obj) (data_blocks sh R f.obj) (format_first sh R f a).0) in let t = w.to in absurd (omega (arith, m, t, e))))) (k u x)
@@ -411,20 +411,20 @@ old_heads sh R r o i e s h a at k = record {
 
 -- of a new extent
 
-not_in_old : (sh : Shape) (R : List Record) (x : ExtendRecord) (g : Extent) (i d n m : ℕ) → is_shape sh ≡ true → AreAllowed sh R → ExtendAllowed sh R x → extent_at (extents_of R x.obj) i ≡ Some g → d ≡ first_block sh g.number + n → n < 8 → m < 8 → first_block sh x.extent + m ≡ d → ⊥
+not_in_old : (sh : Shape) (R : List Record) (x : ExtendRecord) (g : Extent) (i d n m : ℕ) → is_shape sh ≡ true → AreAllowed sh R → ExtendAllowed sh R x → extent_at (extents_of R x.obj) i ≡ Some g → d ≡ first_block sh g.number + n → n < LEAST_EXTENT_BLOCKS → m < LEAST_EXTENT_BLOCKS → first_block sh x.extent + m ≡ d → ⊥
 not_in_old sh R x g i d n m s h a at e l k same =
     let lim = limits sh s in
     let f = lim.extent_from in
     true≢false (sym (in_new sh x.extent m (omega (arith, f, k))) ∙ ap (in_extent sh x.extent) same ∙ old_out sh R x x.obj i d n g lim (has_number sh R x.obj i g h at) a at e l)
 
 -- a block of the new extent isn't the L2, but for the second one
-not_second : (sh : Shape) (R : List Record) (x : ExtendRecord) (m : ℕ) → is_shape sh ≡ true → AreAllowed sh R → ExtendAllowed sh R x → m < 8 → (m ≡ 1 → ⊥) → eqb (first_block sh x.extent + m) x.l2 ≡ false
+not_second : (sh : Shape) (R : List Record) (x : ExtendRecord) (m : ℕ) → is_shape sh ≡ true → AreAllowed sh R → ExtendAllowed sh R x → m < LEAST_EXTENT_BLOCKS → (m ≡ 1 → ⊥) → eqb (first_block sh x.extent + m) x.l2 ≡ false
 not_second sh R x m s h a l n = ne_eqb (first_block sh x.extent + m) x.l2 (λ e. elim (l2_map sh R x a).place [
   | inl p ↦ n (let q = p.1 in omega (arith, e, q))
   | inr p ↦ not_in_old sh R x p.0 (group_start x.index) x.l2 1 m s h a p.1 p.2 (omega arith) l e
 ])
 
-not_third : (sh : Shape) (R : List Record) (x : ExtendRecord) (m : ℕ) → is_shape sh ≡ true → AreAllowed sh R → ExtendAllowed sh R x → m < 8 → (m ≡ 2 → ⊥) → eqb (first_block sh x.extent + m) x.l3 ≡ false
+not_third : (sh : Shape) (R : List Record) (x : ExtendRecord) (m : ℕ) → is_shape sh ≡ true → AreAllowed sh R → ExtendAllowed sh R x → m < LEAST_EXTENT_BLOCKS → (m ≡ 2 → ⊥) → eqb (first_block sh x.extent + m) x.l3 ≡ false
 not_third sh R x m s h a l n = ne_eqb (first_block sh x.extent + m) x.l3 (λ e. elim (l3_map sh R x a).place [
   | inl p ↦ n (let q = p.1 in omega (arith, e, q))
   | inr p ↦ not_in_old sh R x p.0 0 x.l3 2 m s h a p.1 p.2 (omega arith) l e
@@ -447,7 +447,7 @@ new_heads sh R x s h a =
       second = λ g.
           let l2 = new_l2 sh R x a g in
           let touched_it : is_in (b + 1) (touched_sorts sh (Extend x)) ≡ true = or_left (eqb x.l2 (b + 1)) _ (eq-eqb x.l2 (b + 1) l2) in
-          cond-true _ _ _ touched_it ∙ cond-true _ _ _ (eq-eqb (b + 1) x.l2 (sym l2)) ∙ cond-true _ _ _ (eq-eqb (x.index % 300) 0 (group_whole x.index g));
+          cond-true _ _ _ touched_it ∙ cond-true _ _ _ (eq-eqb (b + 1) x.l2 (sym l2)) ∙ cond-true _ _ _ (eq-eqb (x.index % EXTENTS_OF_L2) 0 (group_whole x.index g));
       third = λ z.
           let l3 = new_l3 sh R x a z in
           let touched_it : is_in (b + 2) (touched_sorts sh (Extend x)) ≡ true = or_right (eqb x.l2 (b + 2)) _ (or_left (eqb x.l3 (b + 2)) _ (eq-eqb x.l3 (b + 2) l3)) in

@@ -1,7 +1,7 @@
 -- What an allowed record touches lies in the store.
-use Rattle.std.proofs.Common.{◌≡◌, ℕ, ◌+◌, ◌<◌, ◌≤◌, Bool, true, false, not, eqb, List, [], ◌∷◌, ◌++◌, take, Option, Some, None, refl, sym, subst, arith, inl, inr, true≢false, eqb-true, leb-true}
+use Rattle.std.proofs.Common.{◌≡◌, ℕ, ◌+◌, ◌<◌, ◌≤◌, Bool, true, false, not, eqb, List, [], ◌∷◌, ◌++◌, take, Option, Some, None, refl, sym, subst, arith, inl, inr, true≢false, eqb-true, leb-true, ◌*◌}
 use Rattle.seg_words.proofs.Lemmas.{or_cases, and_parts}
-use Rattle.seg_words.specs.Types.{Shape, first_block, is_extent}
+use Rattle.seg_words.specs.Types.{Shape, first_block, is_extent, MOST_TABLES, EXTENTS_OF_L2, LEAST_EXTENT_BLOCKS}
 use Rattle.redo_model.specs.Records.{Record, Table, Movement, Extend, FormatBlock, Class, Advance, Lower, Begin, Reuse, Insert, Update, Migrate, Return, Delete, Commit, Back, Ended, Move, Clean, RowPart, BackPart, RowBody}
 use Rattle.redo_model.specs.Model.{Step, effect_of, row_step, move_step, Extent, extents_of, data_blocks, high_mark, IsRowBlock, has_extent, is_taken, is_free_extent, extent_at, block_in, group_start, l2_at, IsKindAllowed, AreAllowed}
 use Rattle.redo_model.specs.Effects.{Adds}
@@ -40,21 +40,21 @@ backs_there sh [] h = tt
 backs_there sh (p ∷ ps) h = (h.0, backs_there sh ps h.1)
 
 -- a block at one of the first places of an extent
-place_there : (sh : Shape) (es : List Extent) (i n : ℕ) → Limits sh → ((x : ℕ) → has_extent es x ≡ true → is_extent sh x ≡ true) → n < 8 → block_in sh (extent_at es i) n < sh.blocks
+place_there : (sh : Shape) (es : List Extent) (i n : ℕ) → Limits sh → ((x : ℕ) → has_extent es x ≡ true → is_extent sh x ≡ true) → n < LEAST_EXTENT_BLOCKS → block_in sh (extent_at es i) n < sh.blocks
 place_there sh es i n l w m = go (extent_at es i) refl
   where
     go : (o : Option Extent) → extent_at es i ≡ o → block_in sh o n < sh.blocks
     go None e = (let a = l.all in omega (arith, a))
     go (Some x) e = let k = leb-true (first_block sh x.number + sh.extent) sh.blocks (w x.number (found_has es i x e)) in let f = l.extent_from in omega (arith, k, m, f)
 
-at_there : (sh : Shape) (S : List Record) (o i n : ℕ) → Limits sh → AreAllowed sh S → n < 8 → block_in sh (extent_at (extents_of S o) i) n < sh.blocks
+at_there : (sh : Shape) (S : List Record) (o i n : ℕ) → Limits sh → AreAllowed sh S → n < LEAST_EXTENT_BLOCKS → block_in sh (extent_at (extents_of S o) i) n < sh.blocks
 at_there sh S o i n l h m = place_there sh (extents_of S o) i n l (placed sh S o h).whole m
 
-extent_there : (sh : Shape) (x : ℕ) → Limits sh → is_extent sh x ≡ true → first_block sh x + 8 ≤ sh.blocks
+extent_there : (sh : Shape) (x : ℕ) → Limits sh → is_extent sh x ≡ true → first_block sh x + LEAST_EXTENT_BLOCKS ≤ sh.blocks
 extent_there sh x l e = let k = leb-true (first_block sh x + sh.extent) sh.blocks e in let f = l.extent_from in omega (arith, k, f)
 
 free_whole : (sh : Shape) (R : List Record) (x : ℕ) → is_free_extent sh R x ≡ true → is_extent sh x ≡ true
-free_whole sh R x f = (and_parts (is_extent sh x) (not (is_taken R 32 x)) f).0
+free_whole sh R x f = (and_parts (is_extent sh x) (not (is_taken R MOST_TABLES x)) f).0
 
 step_there : (sh : Shape) (R : List Record) (r : Record) (st : Step) → Limits sh → AreAllowed sh (r ∷ R) → effect_of r ≡ Adds st → (st.undo.block < sh.blocks) × AreThere sh (blocks_of st.parts)
 step_there sh R r st l h e =
@@ -123,7 +123,7 @@ sorts_there sh R (Lower x) l h a =
     let w : (y : ℕ) → has_extent es y ≡ true → is_extent sh y ≡ true = λ y k. (placed sh R x.obj h.0).whole y (has_taken x.kept (extents_of R x.obj) y k) in (
       subst (λ n. n < sh.blocks) (sym a.l3) (at_there sh R x.obj 0 2 l h.0 (omega arith)),
       subst (λ (os : List (Option ℕ)). AreThere sh (those os)) (sym a.l2)
-          (l2_there sh es 0 (l2_at sh (extent_at es 300) ∷ l2_at sh (extent_at es 600) ∷ []) l w (l2_there sh es 300 (l2_at sh (extent_at es 600) ∷ []) l w (l2_there sh es 600 [] l w tt))),
+          (l2_there sh es 0 (l2_at sh (extent_at es EXTENTS_OF_L2) ∷ l2_at sh (extent_at es (2 * EXTENTS_OF_L2)) ∷ []) l w (l2_there sh es EXTENTS_OF_L2 (l2_at sh (extent_at es (2 * EXTENTS_OF_L2)) ∷ []) l w (l2_there sh es (2 * EXTENTS_OF_L2) [] l w tt))),
     )
 
 space_there : (sh : Shape) → Limits sh → 3 < sh.blocks

@@ -1,7 +1,7 @@
 -- What sort of page each block has after some records, as a fold of those that touch it; and that each record of a lawful
 -- list meets the sorts that it needs.
 use Rattle.std.specs.Prelude.{◌≡◌, ℕ, ◌+◌, ◌-◌, ◌%◌, ◌<◌, ◌≤◌, Bool, true, false, cond, eqb, List, [], ◌∷◌, Some}
-use Rattle.seg_words.specs.Types.{Shape, first_block, is_shape}
+use Rattle.seg_words.specs.Types.{Shape, first_block, is_shape, MOST_EXTENTS, EXTENTS_OF_L2, OWN_BLOCKS, MOST_EXTENT_BLOCKS}
 use Rattle.redo_model.specs.Records.{Record, Extend, FormatBlock, Class, Begin, Reuse, Insert, Update, Migrate, Return, Delete, Commit, Back, Ended, ExtendRecord, FormatBlockRecord, ClassRecord, ReuseRecord}
 use Rattle.redo_model.specs.Model.{Step, effect_of, txn_count, Extent, extents_of, is_formatted, extent_at, group_start, undo_sequence, AreAllowed}
 use Rattle.redo_model.specs.Effects.{Adds}
@@ -30,7 +30,7 @@ abbrev pub sort_after : Record → ℕ → Sort → Sort
 sort_after (FormatBlock f) d s = cond (eqb f.dba d) Rows s
 sort_after (Reuse q) d s = cond (eqb q.block d) Undo s
 sort_after (Begin g) d s = as_txns s
-sort_after (Extend e) d s = cond (eqb d e.l2) (cond (eqb (e.index % 300) 0) Second s) (cond (eqb d e.l3) (cond (eqb e.index 0) Third s) First)
+sort_after (Extend e) d s = cond (eqb d e.l2) (cond (eqb (e.index % EXTENTS_OF_L2) 0) Second s) (cond (eqb d e.l3) (cond (eqb e.index 0) Third s) First)
 sort_after _ d s = s
 
 abbrev pub sort_of : Shape → List Record → ℕ → Sort
@@ -68,8 +68,8 @@ pub record MapsFit (sh : Shape) (R : List Record) (b l2 l3 index : ℕ) : Type 0
   pub second : sort_of sh R l2 ≡ Second
   pub third : sort_of sh R l3 ≡ Third
   pub from : first_of sh b ≤ b
-  pub to : b - first_of sh b < 64
-  pub few : index < 900
+  pub to : b - first_of sh b < MOST_EXTENT_BLOCKS
+  pub few : index < MOST_EXTENTS
 
 pub record RecordMeets (sh : Shape) (R : List Record) (r : Record) : Type 0 where
   pub rows : (b : ℕ) → is_in b (rows_named (effect_of r)) ≡ true → sort_of sh R b ≡ Rows
@@ -85,7 +85,7 @@ RecordsMeetSorts = (sh : Shape) (R : List Record) (r : Record) → is_shape sh �
 
 -- A Reuse may come first, when there is no transaction table yet: then only the record that it calls for is missing.
 abbrev pub first_reuse : Record
-first_reuse = Reuse (record { block = 37; sequence = 1 })
+first_reuse = Reuse (record { block = OWN_BLOCKS; sequence = 1 })
 
 pub record FirstReuse : Type 0 where
   pub allowed : AreAllowed small (first_reuse ∷ [])

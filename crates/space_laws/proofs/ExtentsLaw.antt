@@ -1,7 +1,7 @@
 -- Extents: what stays, what is freed, and what each of their blocks is.
-use Rattle.std.proofs.Common.{◌≡◌, ◌⊎◌, ℕ, zero, suc, ◌+◌, ◌-◌, ◌<◌, ◌≤◌, Bool, true, false, cond, not, ◌&&◌, ◌||◌, eqb, ltb, leb, List, [], ◌∷◌, ◌++◌, length, take, drop, Option, Some, None, refl, sym, ◌∙◌, ap, ap₂, subst, arith, inl, inr, le_refl, true≢false, eqb-true, eq-eqb, leb-true, ltb-true, leb-false, lt-ltb}
+use Rattle.std.proofs.Common.{◌≡◌, ◌⊎◌, ℕ, zero, suc, ◌+◌, ◌-◌, ◌<◌, ◌≤◌, Bool, true, false, cond, not, ◌&&◌, ◌||◌, eqb, ltb, leb, List, [], ◌∷◌, ◌++◌, length, take, drop, Option, Some, None, refl, sym, ◌∙◌, ap, ap₂, subst, arith, inl, inr, le_refl, true≢false, eqb-true, eq-eqb, leb-true, ltb-true, leb-false, lt-ltb, ◌*◌}
 use Rattle.seg_words.proofs.Lemmas.{cond-true, cases_Bool, cases_order, eqb-false, or_left, or_right, and_parts}
-use Rattle.seg_words.specs.Types.{Shape, first_block, head_blocks}
+use Rattle.seg_words.specs.Types.{Shape, first_block, head_blocks, MOST_TABLES, EXTENTS_OF_L2}
 use Rattle.redo_model.specs.Records.{Record, Extend, Lower, LowerRecord}
 use Rattle.redo_model.specs.Model.{Extends, Extent, extents_of, blocks_from, extent_data, data_of, data_blocks, has_extent, is_taken, extent_at, block_in, group_start, LowerAllowed, IsKindAllowed, AreAllowed}
 use Rattle.redo_model.specs.Lists.{same, more}
@@ -88,8 +88,8 @@ first_extents_stay sh Q R o e a x h =
           ap (λ n. block_in sh (extent_at (extents_of R o) n) 1) g ∙ ap (λ (z : Option Extent). block_in sh z 1) same ∙ ap (λ n. block_in sh (extent_at (extents_of Q o) n) 1) (sym g);
     }
   where
-    lt : (i : ℕ) → i < 300 → ltb i 300 ≡ true
-    lt i l = lt-ltb i 300 l
+    lt : (i : ℕ) → i < EXTENTS_OF_L2 → ltb i EXTENTS_OF_L2 ≡ true
+    lt i l = lt-ltb i EXTENTS_OF_L2 l
 
 -- what is freed
 
@@ -143,7 +143,7 @@ all_or false true false = refl
 all_or false false true = refl
 all_or false false false = refl
 
-frees_all : (sh : Shape) (R : List Record) (l : LowerRecord) (x m : ℕ) → AreAllowed sh R → LowerAllowed sh R l → m ≤ 32 → is_taken (Lower l ∷ R) m x ≡ (is_taken R m x && not (is_in x l.released))
+frees_all : (sh : Shape) (R : List Record) (l : LowerRecord) (x m : ℕ) → AreAllowed sh R → LowerAllowed sh R l → m ≤ MOST_TABLES → is_taken (Lower l ∷ R) m x ≡ (is_taken R m x && not (is_in x l.released))
 frees_all sh R l x zero h a k = refl
 frees_all sh R l x (suc m) h a k =
     ap₂ (λ v w. v || w) (frees_one sh R l x (suc m) h a (record { least = omega arith; most = k })) (frees_all sh R l x m h a (omega (arith, k)))
@@ -154,7 +154,7 @@ lowers_free_what_they_name sh R l x h =
     let a = h.1.kind in
     record {
       of_table = λ o one most. frees_one sh R l x o h.0 a (record { least = one; most = most });
-      of_all = frees_all sh R l x 32 h.0 a (le_refl 32);
+      of_all = frees_all sh R l x MOST_TABLES h.0 a (le_refl MOST_TABLES);
       were_there = λ n. has_dropped l.kept (extents_of R l.obj) x (sym (ap (λ (xs : List ℕ). is_in x xs) a.released ∙ number_in (drop l.kept (extents_of R l.obj)) x) ∙ n);
     }
 
@@ -212,15 +212,15 @@ at_data sh i (x ∷ es) (suc j) b e h l u =
     in_right b (extent_data sh i x.number) (data_of sh (suc i) es) (at_data sh (suc i) es j b e h (subst (λ n. first_block sh e.number + head_blocks n ≤ b) (let z : i + suc j ≡ suc i + j = omega arith in z) l) u)
 
 pub head_few : (i : ℕ) → (1 ≤ head_blocks i) × (head_blocks i ≤ 4)
-head_few i = elim (eqb i 0) as (λ v. (1 ≤ cond v 4 (cond (eqb i 300 || eqb i 600) 2 1)) × (cond v 4 (cond (eqb i 300 || eqb i 600) 2 1) ≤ 4)) [
+head_few i = elim (eqb i 0) as (λ v. (1 ≤ cond v 4 (cond (eqb i EXTENTS_OF_L2 || eqb i (2 * EXTENTS_OF_L2)) 2 1)) × (cond v 4 (cond (eqb i EXTENTS_OF_L2 || eqb i (2 * EXTENTS_OF_L2)) 2 1) ≤ 4)) [
   | true ↦ (omega arith, omega arith)
-  | false ↦ elim (eqb i 300 || eqb i 600) as (λ w. (1 ≤ cond w 2 1) × (cond w 2 1 ≤ 4)) [ true ↦ (omega arith, omega arith) | false ↦ (omega arith, omega arith) ]
+  | false ↦ elim (eqb i EXTENTS_OF_L2 || eqb i (2 * EXTENTS_OF_L2)) as (λ w. (1 ≤ cond w 2 1) × (cond w 2 1 ≤ 4)) [ true ↦ (omega arith, omega arith) | false ↦ (omega arith, omega arith) ]
 ]
 
 pub group_heads : (i : ℕ) → 2 ≤ head_blocks (group_start i)
-group_heads i = elim (ltb i 300) as (λ v. 2 ≤ head_blocks (cond v 0 (cond (ltb i 600) 300 600))) [
+group_heads i = elim (ltb i EXTENTS_OF_L2) as (λ v. 2 ≤ head_blocks (cond v 0 (cond (ltb i (2 * EXTENTS_OF_L2)) EXTENTS_OF_L2 (2 * EXTENTS_OF_L2)))) [
   | true ↦ omega arith
-  | false ↦ elim (ltb i 600) as (λ w. 2 ≤ head_blocks (cond w 300 600)) [ true ↦ omega arith | false ↦ omega arith ]
+  | false ↦ elim (ltb i (2 * EXTENTS_OF_L2)) as (λ w. 2 ≤ head_blocks (cond w EXTENTS_OF_L2 (2 * EXTENTS_OF_L2))) [ true ↦ omega arith | false ↦ omega arith ]
 ]
 
 -- two blocks of extents that are one block are in one extent at one index

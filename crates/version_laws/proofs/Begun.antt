@@ -1,6 +1,6 @@
 -- Blocks name only transactions that have begun.
 use Rattle.std.proofs.Common.{◌≡◌, ℕ, suc, ◌+◌, ◌-◌, ◌*◌, ◌≤◌, Bool, true, false, cond, not, ◌&&◌, ◌||◌, ◌==◌, eqb, nat_lt, nat_le, if◌then◌else◌, List, [], ◌∷◌, ◌++◌, length, get_or, option_map, sum_by, Option, Some, None, refl, sym, ◌∙◌, ap, ap₂, subst, arith, inl, le_trans, ne_eqb, le-ltb}
-use Rattle.seg_words.specs.Types.{position_or_len, Shape, Slot, ListEntry, Writer, By, At, Block, new_slot, new_entry, number_of, entry_as_told, clean_entry, writer_has_ended, slot_size, is_empty, is_reusable, slot_to_use, names, is_spare, other_entry, entry_for, entry_size, used_of, has_room, takes_beside}
+use Rattle.seg_words.specs.Types.{position_or_len, Shape, Slot, ListEntry, Writer, By, At, Block, new_slot, new_entry, number_of, entry_as_told, clean_entry, writer_has_ended, slot_size, is_empty, is_reusable, slot_to_use, names, is_spare, other_entry, entry_for, entry_size, used_of, has_room, takes_beside, BLOCK_ROOM, SLOT_SIZE, MOST_SLOTS, LIST_ENTRY_SIZE, LEAST_LIST_ENTRIES, MOST_LIST_ENTRIES}
 use Rattle.seg_words.proofs.Lemmas.{cond-false, sum_by-cons}
 use Rattle.redo_model.specs.Records.{Record, Begin, Reuse, RowPart, BeginRecord}
 use Rattle.redo_model.specs.Model.{Effect, effect_of, txn_count, is_active, ended_in, block_of, slots_of, entries_of, image, is_at, entered_in, entered_by, changed_entry, entry, Undone, undone, undone_after, emptied_by, undo_parts, lesser, least_active, Made, makers, AreAllowed}
@@ -71,14 +71,14 @@ none_place f (x ∷ xs) h = ap₂ (λ (v : Bool) (n : ℕ). cond (not v) (1 + n)
 -- what a block takes, by three numbers
 
 abbrev pub made_by : ℕ → Block → Option ℕ
-made_by used x = if nat_lt (length x.entries) 8 && nat_le 24 (4032 - used) then Some (length x.entries) else None
+made_by used x = if nat_lt (length x.entries) MOST_LIST_ENTRIES && nat_le LIST_ENTRY_SIZE (BLOCK_ROOM - used) then Some (length x.entries) else None
 
 abbrev pub other_by : ℕ → ℕ → Block → Option ℕ
 other_by used spare x = if nat_lt spare (length x.entries) then Some spare else made_by used x
 
 abbrev beside_by : ℕ → ℕ → ℕ → Block → ℕ → Option ℕ → Bool
 beside_by used slot pct x len None = false
-beside_by used slot pct x len (Some e) = nat_lt slot 100 && has_room pct (4032 - used) (len + (if nat_lt slot (length x.slots) then 0 else 40) + e)
+beside_by used slot pct x len (Some e) = nat_lt slot MOST_SLOTS && has_room pct (BLOCK_ROOM - used) (len + (if nat_lt slot (length x.slots) then 0 else SLOT_SIZE) + e)
 
 beside_same : (f : ℕ → Bool) (pct : ℕ) (x : Block) (len : ℕ) (o : Option ℕ) → takes_beside f pct x len o ≡ beside_by (used_of f x) (slot_to_use f x) pct x len o
 beside_same f pct x len None = refl
@@ -93,7 +93,7 @@ pub record Begun (f g : ℕ → Bool) (t : ℕ) (x : Block) : Type 0 where
 
 pub sizes : (f g : ℕ → Bool) (ss : List Slot) → Every (λ (s : Slot). writer_has_ended g s.writer ≡ writer_has_ended f s.writer) ss → Every (λ (s : Slot). slot_size g s ≡ slot_size f s) ss
 sizes f g [] h = tt
-sizes f g (s ∷ ss) h = (ap (λ (v : Bool). 40 + (if v then length s.bytes else s.room)) h.0, sizes f g ss h.1)
+sizes f g (s ∷ ss) h = (ap (λ (v : Bool). SLOT_SIZE + (if v then length s.bytes else s.room)) h.0, sizes f g ss h.1)
 
 pub reusables : (f g : ℕ → Bool) (ss : List Slot) → Every (λ (s : Slot). writer_has_ended g s.writer ≡ writer_has_ended f s.writer) ss → Every (λ (s : Slot). is_reusable g s ≡ is_reusable f s) ss
 reusables f g [] h = tt
@@ -101,7 +101,7 @@ reusables f g (s ∷ ss) h = (ap (λ (v : Bool). is_empty s.kind && v) h.0, reus
 
 pub takes_same : (f g : ℕ → Bool) (t : ℕ) (x : Block) (pct len : ℕ) → Begun f g t x → takes_beside g pct x len (option_map (entry_size x) (entry_for g x t)) ≡ takes_beside f pct x len (option_map (entry_size x) (other_entry f x))
 takes_same f g t x pct len h =
-    let used : used_of g x ≡ used_of f x = ap (λ n. n + 24 * (length x.entries - 2)) (sums_same (slot_size g) (slot_size f) x.slots (sizes f g x.slots h.writers)) in
+    let used : used_of g x ≡ used_of f x = ap (λ n. n + LIST_ENTRY_SIZE * (length x.entries - LEAST_LIST_ENTRIES)) (sums_same (slot_size g) (slot_size f) x.slots (sizes f g x.slots h.writers)) in
     let slot : slot_to_use g x ≡ slot_to_use f x = places_same (is_reusable g) (is_reusable f) x.slots (reusables f g x.slots h.writers) in
     let spare : position_or_len (is_spare g) x.entries ≡ position_or_len (is_spare f) x.entries = places_same (is_spare g) (is_spare f) x.entries h.spares in
     let other : other_entry g x ≡ other_entry f x = ap₂ (λ (m n : ℕ). other_by m n x) used spare in

@@ -1,7 +1,7 @@
 -- Makers of one slot have parts of their own.
 use Rattle.std.proofs.Common.{◌≡◌, ℕ, zero, suc, ◌+◌, ◌*◌, ◌<◌, ◌≤◌, Bool, true, false, cond, not, ◌&&◌, eqb, List, [], ◌∷◌, length, Some, refl, sym, ◌∙◌, ap, ap₂, subst, arith, inl, inr, le_trans, eqb-true, ne_eqb}
 use Rattle.seg_words.proofs.Lemmas.{cases_Bool, eqb-false, cond-true, cond-false, and_parts, and_right}
-use Rattle.seg_words.specs.Types.{Shape, UndoAddr}
+use Rattle.seg_words.specs.Types.{Shape, UndoAddr, BLOCK_ROOM, MOST_UNDO_PARTS, OWN_BLOCKS, LEAST_UNDO_BLOCKS}
 use Rattle.redo_model.specs.Records.{Record, RowPart}
 use Rattle.redo_model.specs.Model.{Step, Effect, effect_of, part_addr, is_addr, standing, standing_steps, is_place, undo_parts, undo_used, undo_sequence, current_undo, Made, made_by, without, changed_makers, makers, AreAllowed}
 use Rattle.redo_model.specs.Effects.{Still, Formats, Adds, TakesBack, Cleans}
@@ -74,7 +74,7 @@ makers_fall sh (r ∷ R) b k h = falls_effect R (effect_of r) b k (basics sh R r
 
 -- counts
 
-few_parts : (R : List Record) (u : ℕ) → undo_used R u ≤ 4032 → length (undo_parts R u) ≤ 63
+few_parts : (R : List Record) (u : ℕ) → undo_used R u ≤ BLOCK_ROOM → length (undo_parts R u) ≤ MOST_UNDO_PARTS
 few_parts R u l = let x = places_bound R u [] (omega (arith, l)) in omega (arith, x)
 
 -- all that are counted stand below n
@@ -107,30 +107,30 @@ under_all R u ms h = each_map _ _ ms (λ m k z.
 
 abbrev sum_to : (ℕ → ℕ) → ℕ → ℕ
 sum_to f zero = 0
-sum_to f (suc n) = sum_to f n + f (37 + n)
+sum_to f (suc n) = sum_to f n + f (OWN_BLOCKS + n)
 
-sum_few : (f : ℕ → ℕ) (n : ℕ) → ((u : ℕ) → f u ≤ 63) → sum_to f n ≤ 63 * n
+sum_few : (f : ℕ → ℕ) (n : ℕ) → ((u : ℕ) → f u ≤ MOST_UNDO_PARTS) → sum_to f n ≤ MOST_UNDO_PARTS * n
 sum_few f zero h = omega arith
-sum_few f (suc n) h = let a = sum_few f n h in let b = h (37 + n) in omega (arith, a, b)
+sum_few f (suc n) h = let a = sum_few f n h in let b = h (OWN_BLOCKS + n) in omega (arith, a, b)
 
-sum_same : (f g : ℕ → ℕ) (n : ℕ) → ((u : ℕ) → u < 37 + n → f u ≡ g u) → sum_to f n ≡ sum_to g n
+sum_same : (f g : ℕ → ℕ) (n : ℕ) → ((u : ℕ) → u < OWN_BLOCKS + n → f u ≡ g u) → sum_to f n ≡ sum_to g n
 sum_same f g zero h = refl
-sum_same f g (suc n) h = ap₂ (λ x y. x + y) (sum_same f g n (λ u l. h u (omega (arith, l)))) (h (37 + n) (omega arith))
+sum_same f g (suc n) h = ap₂ (λ x y. x + y) (sum_same f g n (λ u l. h u (omega (arith, l)))) (h (OWN_BLOCKS + n) (omega arith))
 
-sum_more : (f : ℕ → ℕ) (b n : ℕ) → 37 ≤ b → b < 37 + n → sum_to (λ u. cond (eqb b u) (suc (f u)) (f u)) n ≡ suc (sum_to f n)
+sum_more : (f : ℕ → ℕ) (b n : ℕ) → OWN_BLOCKS ≤ b → b < OWN_BLOCKS + n → sum_to (λ u. cond (eqb b u) (suc (f u)) (f u)) n ≡ suc (sum_to f n)
 sum_more f b zero l u = absurd (omega (arith, l, u))
-sum_more f b (suc n) l u = elim (cases_Bool (eqb b (37 + n))) [
+sum_more f b (suc n) l u = elim (cases_Bool (eqb b (OWN_BLOCKS + n))) [
   | inl y ↦
-      let same : sum_to (λ v. cond (eqb b v) (suc (f v)) (f v)) n ≡ sum_to f n = sum_same (λ x. cond (eqb b x) (suc (f x)) (f x)) f n (λ v k. cond-false (eqb b v) (suc (f v)) (f v) (ne_eqb b v (λ e. let z = eqb-true b (37 + n) y in omega (arith, k, e, z)))) in
-      let last : cond (eqb b (37 + n)) (suc (f (37 + n))) (f (37 + n)) ≡ suc (f (37 + n)) = cond-true _ _ _ y in
+      let same : sum_to (λ v. cond (eqb b v) (suc (f v)) (f v)) n ≡ sum_to f n = sum_same (λ x. cond (eqb b x) (suc (f x)) (f x)) f n (λ v k. cond-false (eqb b v) (suc (f v)) (f v) (ne_eqb b v (λ e. let z = eqb-true b (OWN_BLOCKS + n) y in omega (arith, k, e, z)))) in
+      let last : cond (eqb b (OWN_BLOCKS + n)) (suc (f (OWN_BLOCKS + n))) (f (OWN_BLOCKS + n)) ≡ suc (f (OWN_BLOCKS + n)) = cond-true _ _ _ y in
       omega (arith, same, last)
   | inr z ↦
-      let more = sum_more f b n l (let q = eqb-false b (37 + n) z in below b n u q) in
-      let last : cond (eqb b (37 + n)) (suc (f (37 + n))) (f (37 + n)) ≡ f (37 + n) = cond-false _ _ _ z in
+      let more = sum_more f b n l (let q = eqb-false b (OWN_BLOCKS + n) z in below b n u q) in
+      let last : cond (eqb b (OWN_BLOCKS + n)) (suc (f (OWN_BLOCKS + n))) (f (OWN_BLOCKS + n)) ≡ f (OWN_BLOCKS + n) = cond-false _ _ _ z in
       omega (arith, more, last)
 ]
   where
-    below : (b n : ℕ) → b < 37 + suc n → (b ≡ 37 + n → ⊥) → b < 37 + n
+    below : (b n : ℕ) → b < OWN_BLOCKS + suc n → (b ≡ OWN_BLOCKS + n → ⊥) → b < OWN_BLOCKS + n
     below b n l q = omega (arith, l, q)
 
 all_count : (sh : Shape) (R : List Record) (ms : List Made) → EachMade (λ m. IsInRing sh m.part.block) ms → present_count R ms ≡ sum_to (λ u. present_in R u ms) sh.undo
@@ -163,10 +163,10 @@ ring_effect sh R (Adds st) x c h = (c st.undo.block x.undo.current, h)
 ring_effect sh R (TakesBack t) x c h = every-filter _ _ (standing R) h
 ring_effect sh R (Cleans d cs) x c h = h
 
-current_in : (sh : Shape) (R : List Record) → 2 ≤ sh.undo → AreAllowed sh R → (u : ℕ) → current_undo R ≡ Some u → IsInRing sh u
+current_in : (sh : Shape) (R : List Record) → LEAST_UNDO_BLOCKS ≤ sh.undo → AreAllowed sh R → (u : ℕ) → current_undo R ≡ Some u → IsInRing sh u
 current_in sh R two h u e = let x = current_bound sh R u two h e in record { from = x.0; to = x.1 }
 
-steps_in : (sh : Shape) (R : List Record) → 2 ≤ sh.undo → AreAllowed sh R → Every (StepIn sh) (standing R)
+steps_in : (sh : Shape) (R : List Record) → LEAST_UNDO_BLOCKS ≤ sh.undo → AreAllowed sh R → Every (StepIn sh) (standing R)
 steps_in sh [] two h = tt
 steps_in sh (r ∷ R) two h = ring_effect sh R (effect_of r) (basics sh R r h.1.kind) (current_in sh R two h.0) (steps_in sh R two h.0)
 
@@ -181,8 +181,8 @@ pub walks_end : WalksEnd
 walks_end sh R b k two h =
     let known = parts_known sh R b k h in
     let falls = makers_fall sh R b k h in
-    let places : (u : ℕ) → length (undo_parts R u) ≤ 63 = λ u. few_parts R u ((whole sh R h).undo.full u) in
-    let block : (u : ℕ) → present_in R u (makers R b k) ≤ 63 = λ u. le_trans (count_under R u (length (undo_parts R u)) (makers R b k) falls (under_all R u (makers R b k) known)) (places u) in
+    let places : (u : ℕ) → length (undo_parts R u) ≤ MOST_UNDO_PARTS = λ u. few_parts R u ((whole sh R h).undo.full u) in
+    let block : (u : ℕ) → present_in R u (makers R b k) ≤ MOST_UNDO_PARTS = λ u. le_trans (count_under R u (length (undo_parts R u)) (makers R b k) falls (under_all R u (makers R b k) known)) (places u) in
     let ring = each_map _ _ (makers R b k) (λ m x. made_in sh (standing R) b k m (steps_in sh R two h) x) (slots_are_chains sh R b k h).stated in
     record {
       known = known;
@@ -191,5 +191,5 @@ walks_end sh R b k two h =
       in_block = block;
       ring = ring;
       current = current_in sh R two h;
-      in_all = subst (λ n. n ≤ 63 * sh.undo) (sym (all_count sh R (makers R b k) ring)) (sum_few (λ u. present_in R u (makers R b k)) sh.undo block);
+      in_all = subst (λ n. n ≤ MOST_UNDO_PARTS * sh.undo) (sym (all_count sh R (makers R b k) ring)) (sum_few (λ u. present_in R u (makers R b k)) sh.undo block);
     }

@@ -1,6 +1,6 @@
 -- What block 1 tells of a transaction that has begun.
 use Rattle.std.proofs.Common.{◌≡◌, ◌⊎◌, ℕ, zero, suc, ◌<◌, ◌≤◌, Bool, true, false, cond, not, nat_le, List, [], ◌∷◌, length, get_or, find, position, nat_lt, Option, Some, None, refl, sym, ◌∙◌, ap, arith, inl, inr, lt-ltb, le-leb, true≢false, eqb-true, eq-eqb}
-use Rattle.seg_words.specs.Types.{position_or_len, Shape}
+use Rattle.seg_words.specs.Types.{position_or_len, Shape, TXN_ENTRIES}
 use Rattle.seg_words.proofs.Lemmas.{cases_Bool, cond-true, cond-false}
 use Rattle.std.proofs.lemmas.List.Sums.{position_or_len_is}
 use mathlib.Core.Path.{fun_ext}
@@ -32,13 +32,13 @@ used_names R None t h = absurd (true≢false (sym h))
 used_names R (Some u) t h = ap (λ (n : ℕ). Some n) (eqb-true u t h)
 
 -- only the transaction's own entry names it
-others : (R : List Record) (p : TxnTable) (t j : ℕ) → HoldsTable R p → j < 96 → names t (entry_at p.entries j) ≡ true → user_of R j ≡ Some t
+others : (R : List Record) (p : TxnTable) (t j : ℕ) → HoldsTable R p → j < TXN_ENTRIES → names t (entry_at p.entries j) ≡ true → user_of R j ≡ Some t
 others R p t j h l e = used_names R (user_of R j) t (sym (ap (names t) (h.entries j l)) ∙ e)
 
 record Named (R : List Record) (p : TxnTable) (t : ℕ) : Type 0 where
   entry : ℕ
   is : entry_of R t ≡ Some entry
-  within : entry < 96
+  within : entry < TXN_ENTRIES
   at : entry_at p.entries entry ≡ entry_used_by R (Some t)
   first : (j : ℕ) → j < entry → names t (entry_at p.entries j) ≡ false
 
@@ -72,7 +72,7 @@ found sh R p t a h b f =
 found_none : (sh : Shape) (R : List Record) (p : TxnTable) (t : ℕ) → AreAllowed sh R → HoldsTable R p → is_forgotten R t ≡ true → find (names t) p.entries ≡ None
 found_none sh R p t a h f = find_none (names t) p.entries Unused (λ j l. not_named j (let c = h.count in omega (arith, c, l)) (cases_Bool (names t (entry_at p.entries j))))
   where
-    not_named : (j : ℕ) → j < 96 → (names t (entry_at p.entries j) ≡ true) ⊎ (names t (entry_at p.entries j) ≡ false) → names t (entry_at p.entries j) ≡ false
+    not_named : (j : ℕ) → j < TXN_ENTRIES → (names t (entry_at p.entries j) ≡ true) ⊎ (names t (entry_at p.entries j) ≡ false) → names t (entry_at p.entries j) ≡ false
     not_named j l (inl y) = absurd (true≢false (sym f ∙ ((txn_table sh R a).last t j (others R p t j h l y)).1))
     not_named j l (inr n) = n
 
@@ -127,7 +127,7 @@ not_begun sh R t a n = go (cases_Bool (is_active R t))
 not_named : (sh : Shape) (R : List Record) (p : TxnTable) (t : ℕ) → AreAllowed sh R → HoldsTable R p → has_begun R t ≡ false → find (names t) p.entries ≡ None
 not_named sh R p t a h n = find_none (names t) p.entries Unused (λ j l. go j (let c = h.count in omega (arith, c, l)) (cases_Bool (names t (entry_at p.entries j))))
   where
-    go : (j : ℕ) → j < 96 → (names t (entry_at p.entries j) ≡ true) ⊎ (names t (entry_at p.entries j) ≡ false) → names t (entry_at p.entries j) ≡ false
+    go : (j : ℕ) → j < TXN_ENTRIES → (names t (entry_at p.entries j) ≡ true) ⊎ (names t (entry_at p.entries j) ≡ false) → names t (entry_at p.entries j) ≡ false
     go j l (inl y) = let table = txn_table sh R a in absurd (true≢false (sym (table.entry_begun t j (table.last t j (others R p t j h l y)).0) ∙ n))
     go j l (inr x) = x
 

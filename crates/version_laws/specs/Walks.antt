@@ -1,7 +1,7 @@
 -- How far a walk down a slot goes: its parts of undo stand in the ring, and those of one use of one undo block stand at
 -- places that fall, all below the number of parts that a block has at most.
 use Rattle.std.specs.Prelude.{◌≡◌, ◌⊎◌, ℕ, suc, ◌*◌, ◌<◌, ◌≤◌, Bool, false, cond, ◌&&◌, eqb, List, [], ◌∷◌, length, Some}
-use Rattle.seg_words.specs.Types.{Shape, UndoAddr, MOST_UNDO_PARTS}
+use Rattle.seg_words.specs.Types.{Shape, UndoAddr, MOST_UNDO_PARTS, LEAST_UNDO_BLOCKS}
 use Rattle.redo_model.specs.Records.{Record}
 use Rattle.redo_model.specs.Model.{commit_count, undo_parts, undo_sequence, current_undo, is_reused, needed_on, Made, makers, counts, AreAllowed}
 use Rattle.redo_laws.specs.Chain.{EachMade, IsAmong}
@@ -40,7 +40,7 @@ pub record WalkOf (sh : Shape) (R : List Record) (b k : ℕ) : Type 0 where
   pub in_all : present_count R (makers R b k) ≤ MOST_UNDO_PARTS * sh.undo
 
 abbrev pub WalksEnd : Type 0
-WalksEnd = (sh : Shape) (R : List Record) (b k : ℕ) → 2 ≤ sh.undo → AreAllowed sh R → WalkOf sh R b k
+WalksEnd = (sh : Shape) (R : List Record) (b k : ℕ) → LEAST_UNDO_BLOCKS ≤ sh.undo → AreAllowed sh R → WalkOf sh R b k
 
 -- no undo that is needed at all commits was used again, for an active transaction or for none
 abbrev pub NowIsReached : Type 0

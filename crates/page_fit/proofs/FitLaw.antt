@@ -5,7 +5,7 @@ use Rattle.std.proofs.lemmas.List.{length-map}
 use Rattle.std.proofs.Math.Nat.{mul-le-mul_left}
 use Rattle.seg_base.specs.declared.shape.Shape.{Shape}
 use Rattle.seg_base.specs.Places.{first_block, is_extent, is_shape}
-use Rattle.seg_words.specs.Types.{AllByRecursion}
+use Rattle.seg_words.specs.Types.{AllByRecursion, BLOCK_ROOM, TXN_ENTRIES, MOST_TABLES, MOST_EXTENTS, EXTENTS_OF_L2, OWN_BLOCKS, LEAST_EXTENT_BLOCKS, MOST_EXTENT_BLOCKS}
 use Rattle.row_block.specs.RowPage.{RowPage}
 use Rattle.undo_block.specs.declared.part.Part.{Part}
 use Rattle.undo_block.specs.Parts.{used_by, HasPartForm}
@@ -245,7 +245,7 @@ in_plain sh R d n (Some x) s h lt e = head_plain sh R x.number n d h (limits sh 
 pub one_plain : (sh : Shape) (R : List Record) → AreAllowed sh R → Plain R 1
 one_plain sh R h = low_plain sh R 1 h (λ k. omega (arith, k)) (λ k. omega (arith, k)) (omega arith)
 
-pub undo_plain : (sh : Shape) (R : List Record) (d : ℕ) → AreAllowed sh R → 37 ≤ d → d < 37 + sh.undo → Plain R d
+pub undo_plain : (sh : Shape) (R : List Record) (d : ℕ) → AreAllowed sh R → OWN_BLOCKS ≤ d → d < OWN_BLOCKS + sh.undo → Plain R d
 undo_plain sh R d h from to = low_plain sh R d h (λ k. omega (arith, k, from)) (λ k. omega (arith, k, from)) to
 
 first_plain : (sh : Shape) (R : List Record) (o b : ℕ) → is_shape sh ≡ true → AreAllowed sh R → is_in b (data_blocks sh R o) ≡ true → Plain R (first_of sh b)
@@ -276,7 +276,7 @@ undo_fit sh R r st P s h e f =
     let y : Says R d (pages.Undo x.0) = subst (Says R d) x.1 (says sh R d) in
     let old : map as_kept (undo_held R d) ≡ x.0.parts = sym y.1 in
     let new : map as_kept (held_by st st.parts) ≡ undo.parts_of st = parts_same st st.parts in
-    let room = subst (λ (ps : List Part). used_by ps + used_by (undo.parts_of st) ≤ 4032) old (subst (λ (ps : List Part). used_by (map as_kept (undo_held R d)) + used_by ps ≤ 4032) new t.fits) in
+    let room = subst (λ (ps : List Part). used_by ps + used_by (undo.parts_of st) ≤ BLOCK_ROOM) old (subst (λ (ps : List Part). used_by (map as_kept (undo_held R d)) + used_by ps ≤ BLOCK_ROOM) new t.fits) in
     subst P (sym x.1) (f x.0 (sym y.0, room, subst (λ (ps : List Part). AllByRecursion HasPartForm ps) new t.forms))
 
 -- the page of the transaction table
@@ -305,17 +305,17 @@ pub may_delete : (sh : Shape) (R : List Record) (w : RowBody) → DeleteAllowed 
 may_delete sh R w (deletes_plain a) = a.change.change
 may_delete sh R w (deletes_migrated a) = a.change.change
 
-entry_few : (sh : Shape) (R : List Record) (t i : ℕ) → AreAllowed sh R → entry_of R t ≡ Some i → i < 96
+entry_few : (sh : Shape) (R : List Record) (t i : ℕ) → AreAllowed sh R → entry_of R t ≡ Some i → i < TXN_ENTRIES
 entry_few sh R t i h e =
     let w = txn_table sh R h in
     let x = w.entered t (w.entry_begun t i e) in
     let same : x.0 ≡ i = (let z : ◌≡◌ {A = Option ℕ} (Some x.0) (Some i) = sym x.1 ∙ e in cc) in
-    subst (λ n. n < 96) same x.2
+    subst (λ n. n < TXN_ENTRIES) same x.2
 
 row_entry : (sh : Shape) (R : List Record) (r : Record) (w : RowBody) (del : Bool) → is_shape sh ≡ true → AreAllowed sh (r ∷ R) → effect_of r ≡ Adds (row_step w del) → MayChange R w → RowFits w
 row_entry sh R r w del s h e c = (entry_few sh R w.txn w.entry h.0 c.entry, (let t = undo_takes_parts sh R r (row_step w del) (limits sh s).undo_from h e in let f = t.from in omega (arith, f)))
 
-pub taken_entry : (R : List Record) (i c : ℕ) → TakesEntry R i c → i < 96
+pub taken_entry : (R : List Record) (i c : ℕ) → TakesEntry R i c → i < TXN_ENTRIES
 taken_entry R i c (takes_unused x) = x.within
 taken_entry R i c (takes_rolled_back x) = x.within
 taken_entry R i c (takes_committed x) = x.within
@@ -382,7 +382,7 @@ space_extend R e lsn (pages.Third x) lt h = absurd h
 space_extend R e lsn (pages.Header x) lt h = absurd h
 space_extend R e lsn (pages.Rows x) lt h = absurd h
 
-header_extend : (R : List Record) (e : ExtendRecord) (o : ℕ) (p : Page) → length (extents_of R o) < 900 → SaysHeader R o p → PageFits (Extend e) p
+header_extend : (R : List Record) (e : ExtendRecord) (o : ℕ) (p : Page) → length (extents_of R o) < MOST_EXTENTS → SaysHeader R o p → PageFits (Extend e) p
 header_extend R e o (pages.Zero x) lt h = absurd h
 header_extend R e o (pages.Checkpoint x) lt h = absurd h
 header_extend R e o (pages.Txns x) lt h = absurd h
@@ -401,7 +401,7 @@ few_extents sh x l e =
     let f = l.extent_from in
     let m = l.most in
     let u = l.undo_from in
-    let w : x * 8 ≤ x * sh.extent = mul-le-mul_left x f in
+    let w : x * LEAST_EXTENT_BLOCKS ≤ x * sh.extent = mul-le-mul_left x f in
     omega (arith, k, f, m, u, w)
 
 extend_fit : (sh : Shape) (R : List Record) (e : ExtendRecord) (d : ℕ) → is_shape sh ≡ true → AreAllowed sh (Extend e ∷ R) → is_among (touched sh (Extend e)) d ≡ true → PageFits (Extend e) (start (Extend e) (suc (length R)) (page_of sh R d))
@@ -457,7 +457,7 @@ maps_fit sh R b l2 l3 index d P h q k f2 f3 f4 m = elim (or_cases (eqb l2 d) (eq
         let c = first_of sh b in
         let x = is_first (page_of sh R c) (the_sort sh R c First h q.2 k.first) in
         let dba : x.0.dba ≡ c = subst (Says R c) x.1 (says sh R c) in
-        subst (λ w. P (page_of sh R w)) (one_only c d z) (subst P (sym x.1) (f2 x.0 (subst (λ w. w ≤ b) (sym dba) k.from, subst (λ w. b - w < 64) (sym dba) k.to)))
+        subst (λ w. P (page_of sh R w)) (one_only c d z) (subst P (sym x.1) (f2 x.0 (subst (λ w. w ≤ b) (sym dba) k.from, subst (λ w. b - w < MOST_EXTENT_BLOCKS) (sym dba) k.to)))
   ]
 ]
 
@@ -518,7 +518,7 @@ move_fit sh R v d s h m = elim (or_cases (eqb v.undo.block d) (is_among (blocks_
 
 -- records of tables
 
-table_catalogue : (t : TableRecord) (p : Page) → (1 ≤ t.obj) × (t.obj ≤ 32) → IsCatalogue p → PageFits (Table t) (or_kept (as_catalogue p) p)
+table_catalogue : (t : TableRecord) (p : Page) → (1 ≤ t.obj) × (t.obj ≤ MOST_TABLES) → IsCatalogue p → PageFits (Table t) (or_kept (as_catalogue p) p)
 table_catalogue t (pages.Zero x) f h = f
 table_catalogue t (pages.Checkpoint x) f h = absurd h
 table_catalogue t (pages.Txns x) f h = absurd h
@@ -636,11 +636,11 @@ lower_third sh R l d s h at =
     let is : d ≡ first_block sh z.0.number + 2 = sym at ∙ a.l3 ∙ ap (λ (x : Option Extent). block_in sh x 2) z.1 in
     let k = is_third (page_of sh R d) (the_sort sh R d Third h.0 (head_plain sh R z.0.number 2 d h.0 (limits sh s) (omega arith) is) (subst (λ (b : ℕ). sort_of sh R b ≡ Third) (sym is) ((sorts_are_made sh R s h.0).third l.obj z.0 z.1))) in
     let b0 = l2_best_bound sh (Lower l ∷ R) l.obj 0 in
-    let b1 = l2_best_bound sh (Lower l ∷ R) l.obj 300 in
-    let b2 = l2_best_bound sh (Lower l ∷ R) l.obj 600 in
+    let b1 = l2_best_bound sh (Lower l ∷ R) l.obj EXTENTS_OF_L2 in
+    let b2 = l2_best_bound sh (Lower l ∷ R) l.obj (2 * EXTENTS_OF_L2) in
     let e0 : slice_index l.bests 0 ≡ best_in_l2 sh (Lower l ∷ R) l.obj 0 = ap (λ (xs : List ℕ). slice_index xs 0) a.bests in
-    let e1 : slice_index l.bests 1 ≡ best_in_l2 sh (Lower l ∷ R) l.obj 300 = ap (λ (xs : List ℕ). slice_index xs 1) a.bests in
-    let e2 : slice_index l.bests 2 ≡ best_in_l2 sh (Lower l ∷ R) l.obj 600 = ap (λ (xs : List ℕ). slice_index xs 2) a.bests in
+    let e1 : slice_index l.bests 1 ≡ best_in_l2 sh (Lower l ∷ R) l.obj EXTENTS_OF_L2 = ap (λ (xs : List ℕ). slice_index xs 1) a.bests in
+    let e2 : slice_index l.bests 2 ≡ best_in_l2 sh (Lower l ∷ R) l.obj (2 * EXTENTS_OF_L2) = ap (λ (xs : List ℕ). slice_index xs 2) a.bests in
     subst (PageFits (Lower l)) (sym k.1) (omega (arith, b0, e0), omega (arith, b1, e1), omega (arith, b2, e2))
 
 lower_fit : (sh : Shape) (R : List Record) (l : LowerRecord) (d : ℕ) → is_shape sh ≡ true → AreAllowed sh (Lower l ∷ R) → is_among (touched sh (Lower l)) d ≡ true → PageFits (Lower l) (page_of sh R d)
@@ -660,8 +660,8 @@ lower_fit sh R l d s h m =
         | inr v ↦ elim (or_cases (eqb l.l3 d) _ v) [
           | inl y ↦ lower_third sh R l d s h (eqb-true l.l3 d y)
           | inr w ↦
-              let q : is_among (those (l2_at sh (extent_at (take l.kept es) 0) ∷ l2_at sh (extent_at (take l.kept es) 300) ∷ l2_at sh (extent_at (take l.kept es) 600) ∷ [])) d ≡ true = ap (λ (os : List (Option ℕ)). is_among (those os) d) (sym a.l2) ∙ w in
-              lower_second sh R l d 0 _ s h.0 refl (lower_second sh R l d 300 _ s h.0 refl (lower_second sh R l d 600 [] s h.0 refl (λ z. absurd (true≢false (sym z))))) q
+              let q : is_among (those (l2_at sh (extent_at (take l.kept es) 0) ∷ l2_at sh (extent_at (take l.kept es) EXTENTS_OF_L2) ∷ l2_at sh (extent_at (take l.kept es) (2 * EXTENTS_OF_L2)) ∷ [])) d ≡ true = ap (λ (os : List (Option ℕ)). is_among (those os) d) (sym a.l2) ∙ w in
+              lower_second sh R l d 0 _ s h.0 refl (lower_second sh R l d EXTENTS_OF_L2 _ s h.0 refl (lower_second sh R l d (2 * EXTENTS_OF_L2) [] s h.0 refl (λ z. absurd (true≢false (sym z))))) q
         ]
       ]
     ]

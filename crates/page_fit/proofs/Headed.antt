@@ -2,6 +2,7 @@
 -- Extend takes.
 use Rattle.std.proofs.Common.{◌≡◌, ◌⊎◌, ℕ, zero, suc, ◌+◌, ◌≤◌, Bool, true, false, not, ◌&&◌, ◌||◌, eqb, List, [], ◌∷◌, ◌++◌, length, take, Option, Some, None, refl, sym, ◌∙◌, ap, subst, arith, inl, inr}
 use Rattle.std.proofs.lemmas.Bool.{cases_Bool, cases_order, eq-eqb, ne_eqb, cond-true, cond-false, true≢false}
+use Rattle.seg_words.specs.Types.{MOST_TABLES}
 use Rattle.seg_base.specs.declared.shape.Shape.{Shape}
 use Rattle.seg_base.specs.Places.{first_block, is_extent}
 use Rattle.redo_record.specs.declared.record.Record.{Record}
@@ -136,7 +137,7 @@ taken_table t R zero x = refl
 taken_table t R (suc n) x = ap (λ (b : Bool). has_extent (extents_of R (suc n)) x || b) (taken_table t R n x)
 
 free_table : (sh : Shape) (t : TableRecord) (R : List Record) (x : ℕ) → is_free_extent sh (Table t ∷ R) x ≡ is_free_extent sh R x
-free_table sh t R x = ap (λ (b : Bool). is_extent sh x && not b) (taken_table t R 32 x)
+free_table sh t R x = ap (λ (b : Bool). is_extent sh x && not b) (taken_table t R MOST_TABLES x)
 
 least_before : (sh : Shape) (t : TableRecord) (R : List Record) (x : ℕ) → IsLeastFree sh (Table t ∷ R) x → IsLeastFree sh R x
 least_before sh t R x a = record { free = sym (free_table sh t R x) ∙ a.free; least = λ y lt. sym (free_table sh t R y) ∙ a.least y lt }

@@ -2,6 +2,7 @@
 use Rattle.std.proofs.Common.{◌≡◌, ℕ, suc, ◌+◌, ◌-◌, ◌*◌, ◌%◌, ◌<◌, ◌≤◌, min, max, Bool, true, false, eqb, List, [], ◌∷◌, take, Option, Some, None, refl, sym, ◌∙◌, ap, ap₂, subst, arith, inl, inr}
 use Rattle.std.proofs.lemmas.Bool.{cases_order, eq-eqb, leb-true, and_parts, true≢false}
 use Rattle.std.proofs.lemmas.Nat.{mod-mul-add}
+use Rattle.seg_words.specs.Types.{EXTENTS_OF_L2, OWN_BLOCKS, LEAST_EXTENT_BLOCKS}
 use Rattle.seg_base.specs.declared.shape.Shape.{Shape}
 use Rattle.seg_base.specs.Places.{first_block, is_extent, is_shape}
 use Rattle.redo_record.specs.declared.record.Record.{Record}
@@ -30,19 +31,19 @@ use Rattle.page_fit.proofs.Plain.{extend_header}
 use Rattle.page_fit.proofs.Sorted.{no_among}
 
 -- two blocks near the front of extents that are one stand at one place of one extent
-pub one_place : (sh : Shape) (x y n m : ℕ) → Limits sh → n < 8 → m < 8 → first_block sh x + n ≡ first_block sh y + m → (x ≡ y) × (n ≡ m)
+pub one_place : (sh : Shape) (x y n m : ℕ) → Limits sh → n < LEAST_EXTENT_BLOCKS → m < LEAST_EXTENT_BLOCKS → first_block sh x + n ≡ first_block sh y + m → (x ≡ y) × (n ≡ m)
 one_place sh x y n m l ln lm e =
     let w = l.extent_from in
     let same : x ≡ y = same_extent sh x y (first_block sh x + n) (omega arith) (omega (arith, ln, w)) (omega (arith, e)) (omega (arith, e, lm, w)) in
     (same, (let f : first_block sh x ≡ first_block sh y = ap (first_block sh) same in omega (arith, e, f)))
 
 -- the first block of an extent, found from any block of it
-pub first_is : (sh : Shape) (x b : ℕ) → 8 ≤ sh.extent → first_block sh x ≤ b → b < first_block sh x + sh.extent → first_of sh b ≡ first_block sh x
+pub first_is : (sh : Shape) (x b : ℕ) → LEAST_EXTENT_BLOCKS ≤ sh.extent → first_block sh x ≤ b → b < first_block sh x + sh.extent → first_of sh b ≡ first_block sh x
 first_is sh x b w l u =
     let n = b - first_block sh x in
-    let e1 : b - (37 + sh.undo) ≡ x * sh.extent + n = omega (arith, l) in
+    let e1 : b - (OWN_BLOCKS + sh.undo) ≡ x * sh.extent + n = omega (arith, l) in
     let e2 : max sh.extent 1 ≡ sh.extent = omega (arith, w) in
-    let e3 : (b - (37 + sh.undo)) % max sh.extent 1 ≡ n = ap₂ (λ p q. p % q) e1 e2 ∙ mod-mul-add x sh.extent n (omega (arith, l, u)) in
+    let e3 : (b - (OWN_BLOCKS + sh.undo)) % max sh.extent 1 ≡ n = ap₂ (λ p q. p % q) e1 e2 ∙ mod-mul-add x sh.extent n (omega (arith, l, u)) in
     ap (λ k. b - k) e3 ∙ (let z : b - (b - first_block sh x) ≡ first_block sh x = omega (arith, l) in z)
 
 -- what is known of the header of table o, which stands in block d
@@ -70,7 +71,7 @@ header_at sh R o s h i z =
 
 -- what the header is not
 
-not_low : (sh : Shape) (R : List Record) (o d b : ℕ) → HeaderAt sh R o d → b < 37 + sh.undo → d ≡ b → ⊥
+not_low : (sh : Shape) (R : List Record) (o d b : ℕ) → HeaderAt sh R o d → b < OWN_BLOCKS + sh.undo → d ≡ b → ⊥
 not_low sh R o d b a lt e = (let i = a.is in omega (arith, i, lt, e))
 
 not_head : (sh : Shape) (R : List Record) (o d b x n : ℕ) → HeaderAt sh R o d → n < 3 → b ≡ first_block sh x + n → d ≡ b → ⊥
@@ -200,8 +201,8 @@ lower_out sh R l o d h a other =
     ∙ no_among l.header (l.l3 ∷ those l.l2) d (not_header sh R (Lower l) o l.obj l.header d h a k.table (λ e is. (let z : Lower l ≡ Extend e = is in cc)) k.header other)
     ∙ no_among l.l3 (those l.l2) d (not_in sh R o d l.l3 2 (extent_at (extents_of R l.obj) 0) a (omega arith) k.l3)
     ∙ ap (λ (os : List (Option ℕ)). is_among (those os) d) k.l2
-    ∙ those_out sh R o d (extent_at es 0) (l2_at sh (extent_at es 300) ∷ l2_at sh (extent_at es 600) ∷ []) a
-    (those_out sh R o d (extent_at es 300) (l2_at sh (extent_at es 600) ∷ []) a (those_out sh R o d (extent_at es 600) [] a refl))
+    ∙ those_out sh R o d (extent_at es 0) (l2_at sh (extent_at es EXTENTS_OF_L2) ∷ l2_at sh (extent_at es (2 * EXTENTS_OF_L2)) ∷ []) a
+    (those_out sh R o d (extent_at es EXTENTS_OF_L2) (l2_at sh (extent_at es (2 * EXTENTS_OF_L2)) ∷ []) a (those_out sh R o d (extent_at es (2 * EXTENTS_OF_L2)) [] a refl))
 
 -- the other records leave the header alone
 pub header_apart : (sh : Shape) (R : List Record) (r : Record) (o : ℕ) → is_shape sh ≡ true → AreAllowed sh (r ∷ R) → IsTable R o → Standing sh R o → names_header r o ≡ false → is_among (touched sh r) (stated_header R o) ≡ false

@@ -1,6 +1,7 @@
 -- The catalogue and the space bitmap: which records touch blocks 2 and 3, and which pages stand there.
-use Rattle.std.proofs.Common.{◌≡◌, ◌⊎◌, ℕ, zero, suc, ◌+◌, ◌<◌, ◌≤◌, min, Bool, true, false, cond, eqb, List, [], ◌∷◌, length, take, Option, Some, None, refl, sym, ◌∙◌, ap, subst, arith, inl, inr}
+use Rattle.std.proofs.Common.{◌≡◌, ◌⊎◌, ℕ, zero, suc, ◌+◌, ◌<◌, ◌≤◌, min, Bool, true, false, cond, eqb, List, [], ◌∷◌, length, take, Option, Some, None, refl, sym, ◌∙◌, ap, subst, arith, inl, inr, ◌*◌}
 use Rattle.std.proofs.lemmas.Bool.{cases_Bool, eq-eqb, cond-true, cond-false, leb-true, and_parts}
+use Rattle.seg_words.specs.Types.{EXTENTS_OF_L2, OWN_BLOCKS}
 use Rattle.seg_base.specs.declared.shape.Shape.{Shape}
 use Rattle.seg_base.specs.Places.{first_block, is_extent, is_shape}
 use Rattle.redo_record.specs.declared.record.Record.{Record}
@@ -31,12 +32,12 @@ use Rattle.page_fit.proofs.HeaderApart.{first_is, home_in}
 
 -- a block that is not one of 2 to 36
 abbrev pub Far : ℕ → Type 0
-Far b = (b ≤ 1) ⊎ (37 ≤ b)
+Far b = (b ≤ 1) ⊎ (OWN_BLOCKS ≤ b)
 
 -- d is one of those
 pub record Near (d : ℕ) : Type 0 where
   pub from : 2 ≤ d
-  pub to : d < 37
+  pub to : d < OWN_BLOCKS
 
 far : (b d : ℕ) → Near d → Far b → d ≡ b → ⊥
 far b d n (inl f) e = (let l = n.from in omega (arith, f, l, e))
@@ -111,8 +112,8 @@ low_apart sh R (Lower l) d s h n o =
     ∙ no_among l.header (l.l3 ∷ those l.l2) d (far l.header d n (block_far sh l.header 3 (extent_at (extents_of R l.obj) 0) k.header))
     ∙ no_among l.l3 (those l.l2) d (far l.l3 d n (block_far sh l.l3 2 (extent_at (extents_of R l.obj) 0) k.l3))
     ∙ ap (λ (os : List (Option ℕ)). is_among (those os) d) k.l2
-    ∙ those_far sh d (extent_at es 0) (l2_at sh (extent_at es 300) ∷ l2_at sh (extent_at es 600) ∷ []) n
-    (those_far sh d (extent_at es 300) (l2_at sh (extent_at es 600) ∷ []) n (those_far sh d (extent_at es 600) [] n refl))
+    ∙ those_far sh d (extent_at es 0) (l2_at sh (extent_at es EXTENTS_OF_L2) ∷ l2_at sh (extent_at es (2 * EXTENTS_OF_L2)) ∷ []) n
+    (those_far sh d (extent_at es EXTENTS_OF_L2) (l2_at sh (extent_at es (2 * EXTENTS_OF_L2)) ∷ []) n (those_far sh d (extent_at es (2 * EXTENTS_OF_L2)) [] n refl))
 low_apart sh R (FormatBlock f) d s h n o =
     let here = in_take f.dba (high_mark R f.obj) (data_blocks sh R f.obj) (format_first sh R f h.1.kind).0 in
     no_among f.dba (f.l2 ∷ f.l3 ∷ first_of sh f.dba ∷ []) d (far f.dba d n (data_far sh R f.obj f.dba h.0 here)) ∙ maps_far sh R d f.obj f.dba f.l2 f.l3 f.index s n h.1.kind.bitmaps here

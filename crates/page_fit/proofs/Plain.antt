@@ -1,6 +1,7 @@
 -- Blocks that are neither the catalogue nor the space bitmap nor a header.
 use Rattle.std.proofs.Common.{◌≡◌, ℕ, suc, ◌+◌, ◌<◌, ◌≤◌, Bool, true, false, eqb, ◌||◌, List, [], ◌∷◌, Option, refl, sym, ◌∙◌, ap, subst, arith, inl, inr}
 use Rattle.std.proofs.lemmas.Bool.{cases_Bool, cases_order, eqb-true, eq-eqb, ne_eqb, cond-true, cond-false, or_cases, or_left, or_right, true≢false}
+use Rattle.seg_words.specs.Types.{OWN_BLOCKS}
 use Rattle.seg_base.specs.declared.shape.Shape.{Shape}
 use Rattle.seg_base.specs.Places.{first_block}
 use Rattle.redo_record.specs.declared.record.Record.{Record}
@@ -151,7 +152,7 @@ pub extend_plain : (sh : Shape) (R : List Record) (e : ExtendRecord) (d : ℕ) �
 extend_plain sh R e d h p same = p.no_header (subst (λ (x : ℕ). is_header R x ≡ true) (sym (same ∙ extend_header sh R e h)) (stated_is sh R e.obj h.0 h.1.kind.table))
 
 -- the first three blocks of an extent are plain, and so are blocks before the extents but the second and third
-pub low_plain : (sh : Shape) (R : List Record) (d : ℕ) → AreAllowed sh R → (d ≡ 2 → ⊥) → (d ≡ 3 → ⊥) → d < 37 + sh.undo → Plain R d
+pub low_plain : (sh : Shape) (R : List Record) (d : ℕ) → AreAllowed sh R → (d ≡ 2 → ⊥) → (d ≡ 3 → ⊥) → d < OWN_BLOCKS + sh.undo → Plain R d
 low_plain sh R d h two three lt = record { no_catalogue = two; no_space = three; no_header = λ e. (let f = header_place sh R d h e in let i = f.is in absurd (omega (arith, i, lt))) }
 
 pub head_plain : (sh : Shape) (R : List Record) (x n d : ℕ) → AreAllowed sh R → Limits sh → n < 3 → d ≡ first_block sh x + n → Plain R d

@@ -1,6 +1,7 @@
 -- An undo page's sequence is how often its block was taken into use.
 use Rattle.std.proofs.Common.{◌≡◌, ℕ, suc, ◌%◌, Bool, true, false, cond, eqb, List, [], ◌∷◌, length, Option, Some, None, refl, sym, ◌∙◌, ap, subst, inl, inr}
 use Rattle.std.proofs.lemmas.Bool.{cases_Bool, eqb-true, cond-true, cond-false, or_left, or_right}
+use Rattle.seg_words.specs.Types.{EXTENTS_OF_L2}
 use Rattle.seg_base.specs.declared.shape.Shape.{Shape}
 use Rattle.redo_record.specs.declared.record.Record.{Record}
 use Rattle.redo_record.specs.declared.record.Record.TheVariants.{Table, Movement, Extend, FormatBlock, Class, Advance, Lower, Begin, Reuse, Insert, Update, Migrate, Return, Delete, Commit, Back, Ended, Move, Clean}
@@ -98,10 +99,10 @@ maps_has false bi false ci n q p2 p3 p1 h h2 h3 h1 = h1
 extend_has : (e : ExtendRecord) (lsn n : ℕ) (p : Page) → Has n p → Has n (start (Extend e) lsn p)
 extend_has e lsn n p h =
     let d : ℕ = dba_of p in
-    let rest : Option Page = cond (eqb d e.l2) (cond (eqb (e.index % 300) 0) (Some (new_second d)) None) (cond (eqb d e.l3) (cond (eqb e.index 0) (Some (new_third d)) None) (Some (new_first d lsn))) in
+    let rest : Option Page = cond (eqb d e.l2) (cond (eqb (e.index % EXTENTS_OF_L2) 0) (Some (new_second d)) None) (cond (eqb d e.l3) (cond (eqb e.index 0) (Some (new_third d)) None) (Some (new_first d lsn))) in
     elim (eqb d 3) as (λ b. Has n (or_kept (cond b (as_space p) (cond (eqb d e.header) None rest)) p)) [
       | true ↦ space_has n p h
-      | false ↦ elim (eqb d e.header) as (λ b. Has n (or_kept (cond b None rest) p)) [ true ↦ h | false ↦ maps_has (eqb d e.l2) (eqb (e.index % 300) 0) (eqb d e.l3) (eqb e.index 0) n p (new_second d) (new_third d) (new_first d lsn) h tt tt tt ]
+      | false ↦ elim (eqb d e.header) as (λ b. Has n (or_kept (cond b None rest) p)) [ true ↦ h | false ↦ maps_has (eqb d e.l2) (eqb (e.index % EXTENTS_OF_L2) 0) (eqb d e.l3) (eqb e.index 0) n p (new_second d) (new_third d) (new_first d lsn) h tt tt tt ]
     ]
 
 -- a record that is no Reuse of the block keeps it

@@ -1,6 +1,7 @@
 -- The sort of each page is that of its block, but for the catalogue, the space bitmap and headers, which have none.
 use Rattle.std.proofs.Common.{◌≡◌, ℕ, suc, ◌%◌, Bool, true, false, cond, eqb, ◌||◌, List, [], ◌∷◌, length, Option, Some, None, refl, sym, ◌∙◌, ap}
 use Rattle.std.proofs.lemmas.Bool.{eq-eqb, ne_eqb, cond-false, or_left}
+use Rattle.seg_words.specs.Types.{EXTENTS_OF_L2}
 use Rattle.seg_base.specs.declared.shape.Shape.{Shape}
 use Rattle.redo_record.specs.declared.record.Record.{Record}
 use Rattle.redo_record.specs.declared.record.Record.TheVariants.{Table, Movement, Extend, FormatBlock, Class, Advance, Lower, Begin, Reuse, Insert, Update, Migrate, Return, Delete, Commit, Back, Ended, Move, Clean}
@@ -90,7 +91,7 @@ extent_sort : (e : ExtendRecord) (lsn d : ℕ) (p : Page) (s : Sort) → dba_of 
 extent_sort e lsn d p s dba three header k =
     let x : ℕ = dba_of p in
     ap (λ (o : Option Page). sort_name (or_kept o p)) (cond-false _ _ _ (ne_eqb x 3 (λ h. three (sym dba ∙ h))) ∙ cond-false _ _ _ (ne_eqb x e.header (λ h. header (sym dba ∙ h))))
-    ∙ maps_sort (eqb x e.l2) (eqb (e.index % 300) 0) (eqb x e.l3) (eqb e.index 0) p (new_second x) (new_third x) (new_first x lsn) s k refl refl refl
+    ∙ maps_sort (eqb x e.l2) (eqb (e.index % EXTENTS_OF_L2) 0) (eqb x e.l3) (eqb e.index 0) p (new_second x) (new_third x) (new_first x lsn) s k refl refl refl
     ∙ ap (λ (n : ℕ). Some (sort_after (Extend e) n s)) dba
 
 pub no_among : (x : ℕ) (xs : List ℕ) (d : ℕ) → (d ≡ x → ⊥) → folded.is_among (x ∷ xs) d ≡ folded.is_among xs d

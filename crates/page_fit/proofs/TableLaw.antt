@@ -3,6 +3,7 @@ use Rattle.std.proofs.Common.{◌≡◌, ◌⊎◌, ℕ, zero, suc, ◌%◌, ◌
 use Rattle.std.proofs.lemmas.Bool.{true≢false, cases_Bool, eqb-true, eqb-false, eq-eqb, ne_eqb, cond-true, cond-false}
 use Rattle.std.proofs.lemmas.List.{get_or-set_same, get_or-set_other, length-set}
 use Rattle.std.proofs.lemmas.Option.{slice_get-get_or}
+use Rattle.seg_words.specs.Types.{TXN_ENTRIES, EXTENTS_OF_L2}
 use Rattle.seg_base.specs.declared.shape.Shape.{Shape}
 use Rattle.seg_base.specs.declared.slot.UndoAddr.{UndoAddr}
 use Rattle.seg_base.specs.declared.slot.Writer.{Writer}
@@ -63,8 +64,8 @@ told_same S R (Some t) h =
     ap₂ (λ (o : Outcome) (u : Option UndoAddr). Used (record { txn = t; outcome = o; last_undo = u })) (ap₂ (λ b c. cond b Active (outcome_when_over c)) k.0 k.1) k.2
 
 -- a table with entry i written anew says it of S, where the other users are told as before
-written : (S : List Record) (es : List TableEntry) (i : ℕ) (e : TableEntry) → length es ≡ 96 → i < 96 → e ≡ entry_used_by S (user_of S i) → ((j : ℕ) → j < 96 → (j ≡ i → ⊥) → get_or es j Unused ≡ entry_used_by S (user_of S j))
-    → (j : ℕ) → j < 96 → get_or (set es i e) j Unused ≡ entry_used_by S (user_of S j)
+written : (S : List Record) (es : List TableEntry) (i : ℕ) (e : TableEntry) → length es ≡ TXN_ENTRIES → i < TXN_ENTRIES → e ≡ entry_used_by S (user_of S i) → ((j : ℕ) → j < TXN_ENTRIES → (j ≡ i → ⊥) → get_or es j Unused ≡ entry_used_by S (user_of S j))
+    → (j : ℕ) → j < TXN_ENTRIES → get_or (set es i e) j Unused ≡ entry_used_by S (user_of S j)
 written S es i e n l h k j m = elim (cases_Bool (eqb j i)) [
   | inl y ↦
       let same : j ≡ i = eqb-true j i y in
@@ -74,13 +75,13 @@ written S es i e n l h k j m = elim (cases_Bool (eqb j i)) [
 
 -- the entry of a transaction that has one is its own
 record Own (R : List Record) (t i : ℕ) : Type 0 where
-  few : i < 96
+  few : i < TXN_ENTRIES
   user : user_of R i ≡ Some t
   only : (j : ℕ) → user_of R j ≡ Some t → j ≡ i
 
 own_of : (R : List Record) (t i : ℕ) → Known R → is_active R t ≡ true → entry_of R t ≡ Some i → Own R t i
 own_of R t i w on e = record {
-  few = (let x = w.entered t (w.begun t on) in let same : x.0 ≡ i = one x.0 i (sym x.1 ∙ e) in subst (λ n. n < 96) same x.2);
+  few = (let x = w.entered t (w.begun t on) in let same : x.0 ≡ i = one x.0 i (sym x.1 ∙ e) in subst (λ n. n < TXN_ENTRIES) same x.2);
   user = w.user t i e (w.kept t on);
   only = λ j u. one j i (sym (w.last t j u).0 ∙ e);
 }
@@ -96,8 +97,8 @@ other_user R t i j u o n e = ne_eqb t u (λ x. n (o.only j (e ∙ ap (λ (z : �
 
 row_says : (R : List Record) (r : Record) (w : RowBody) (del : Bool) (t : TxnTable) (lsn : ℕ) → Known R → is_active R w.txn ≡ true → entry_of R w.txn ≡ Some w.entry
     → ((u : ℕ) → (is_active (r ∷ R) u ≡ is_active R u) × (commit_number (r ∷ R) u ≡ commit_number R u) × (last_undo (r ∷ R) u ≡ undo_of_step (cond (eqb w.txn u) (Some (row_step w del)) (newest_of (standing R) u)))) → ((i : ℕ) → user_of (r ∷ R) i ≡ user_of R i)
-    → length t.entries ≡ 96 → ((i : ℕ) → i < 96 → get_or t.entries i Unused ≡ entry_used_by R (user_of R i))
-    → (j : ℕ) → j < 96 → get_or (set t.entries w.entry (Used (record { txn = w.txn; outcome = Active; last_undo = Some w.undo }))) j Unused ≡ entry_used_by (r ∷ R) (user_of (r ∷ R) j)
+    → length t.entries ≡ TXN_ENTRIES → ((i : ℕ) → i < TXN_ENTRIES → get_or t.entries i Unused ≡ entry_used_by R (user_of R i))
+    → (j : ℕ) → j < TXN_ENTRIES → get_or (set t.entries w.entry (Used (record { txn = w.txn; outcome = Active; last_undo = Some w.undo }))) j Unused ≡ entry_used_by (r ∷ R) (user_of (r ∷ R) j)
 row_says R r w del t lsn k on e same users n h =
     let o = own_of R w.txn w.entry k on e in
     let x = same w.txn in
@@ -196,7 +197,7 @@ row_kind_says R r w del t lsn k on e c n rows u same users h = record {
 }
 
 -- the last undo that an entry keeps
-kept_undo : (R : List Record) (t : TxnTable) (x i : ℕ) → HoldsTable R t → i < 96 → user_of R i ≡ Some x → undo_at t i ≡ last_undo R x
+kept_undo : (R : List Record) (t : TxnTable) (x i : ℕ) → HoldsTable R t → i < TXN_ENTRIES → user_of R i ≡ Some x → undo_at t i ≡ last_undo R x
 kept_undo R t x i h l u =
     let n = h.count in
     ap undo_told (slice_get-get_or t.entries i Unused (omega (arith, n, l))) ∙ ap (λ (e : TableEntry). undo_told (Some e)) (h.entries i l ∙ ap (entry_used_by R) u)
@@ -281,7 +282,7 @@ no_newest n t (s ∷ ss) l h = cond-false _ _ _ (later s.by h.0) ∙ no_newest n
     later (By u) b = ne_eqb u t (λ e. absurd (omega (arith, b, e, l)))
     later (At c) b = refl
 
-begin_says : (sh : Shape) (R : List Record) (g : BeginRecord) (t : TxnTable) (lsn : ℕ) → AreAllowed sh R → Known R → BeginAllowed R g → g.entry < 96 → HoldsTable R t → HoldsTable (Begin g ∷ R) (txns_after (Begin g) lsn t)
+begin_says : (sh : Shape) (R : List Record) (g : BeginRecord) (t : TxnTable) (lsn : ℕ) → AreAllowed sh R → Known R → BeginAllowed R g → g.entry < TXN_ENTRIES → HoldsTable R t → HoldsTable (Begin g ∷ R) (txns_after (Begin g) lsn t)
 begin_says sh R g t lsn al k a few h =
     let number = a.number in
     let begun = (good sh R (whole sh R al).fit).held.begun in
@@ -368,7 +369,7 @@ begin_start sh R g (pages.Zero d) s h e k =
         | inr c ↦ let x = called_adds R (Begin g) c h.1.called_for in absurd (let z : Still ≡ Adds x.0 = x.1 in cc)
       ]);
       count = refl;
-      entries = λ i m. rep 96 i ∙ sym (ap (entry_used_by R) (no_user R i n));
+      entries = λ i m. rep TXN_ENTRIES i ∙ sym (ap (entry_used_by R) (no_user R i n));
     }
   where
     none : txn_count R ≡ 0
@@ -429,10 +430,10 @@ maps_t false bi false ci R q p2 p3 p1 h h2 h3 h1 = h1
 extend_t : (R : List Record) (e : ExtendRecord) (lsn : ℕ) (p : Page) → HasT R p → HasT R (start (Extend e) lsn p)
 extend_t R e lsn p h =
     let d : ℕ = dba_of p in
-    let rest : Option Page = cond (eqb d e.l2) (cond (eqb (e.index % 300) 0) (Some (new_second d)) None) (cond (eqb d e.l3) (cond (eqb e.index 0) (Some (new_third d)) None) (Some (new_first d lsn))) in
+    let rest : Option Page = cond (eqb d e.l2) (cond (eqb (e.index % EXTENTS_OF_L2) 0) (Some (new_second d)) None) (cond (eqb d e.l3) (cond (eqb e.index 0) (Some (new_third d)) None) (Some (new_first d lsn))) in
     elim (eqb d 3) as (λ b. HasT R (or_kept (cond b (as_space p) (cond (eqb d e.header) None rest)) p)) [
       | true ↦ space_t R p h
-      | false ↦ elim (eqb d e.header) as (λ b. HasT R (or_kept (cond b None rest) p)) [ true ↦ h | false ↦ maps_t (eqb d e.l2) (eqb (e.index % 300) 0) (eqb d e.l3) (eqb e.index 0) R p (new_second d) (new_third d) (new_first d lsn) h tt tt tt ]
+      | false ↦ elim (eqb d e.header) as (λ b. HasT R (or_kept (cond b None rest) p)) [ true ↦ h | false ↦ maps_t (eqb d e.l2) (eqb (e.index % EXTENTS_OF_L2) 0) (eqb d e.l3) (eqb e.index 0) R p (new_second d) (new_third d) (new_first d lsn) h tt tt tt ]
     ]
 
 table_step : (sh : Shape) (R : List Record) (r : Record) → is_shape sh ≡ true → AreAllowed sh (r ∷ R) → IsKindAllowed sh R r → Known R → HasT R (page_of sh R 1) → HasT (r ∷ R) (page_of sh (r ∷ R) 1)
@@ -479,10 +480,10 @@ finds_its R t u i k h e f =
     let n = h.count in
     let w = k.entered u (k.entry_begun u i e) in
     let same : w.0 ≡ i = (let z : ◌≡◌ {A = Option ℕ} (Some w.0) (Some i) = sym w.1 ∙ e in cc) in
-    let few : i < 96 = subst (λ m. m < 96) same w.2 in
+    let few : i < TXN_ENTRIES = subst (λ m. m < TXN_ENTRIES) same w.2 in
     find_one (names u) t.entries (entry_used_by R (Some u)) i (omega (arith, n, few))
     (ap (names u) (h.entries i few ∙ ap (entry_used_by R) (k.user u i e f)) ∙ eq-eqb u u refl)
-    (λ j m y. let less : j < 96 = omega (arith, n, m) in h.entries j less ∙ named_told R u (user_of R j) (ap (names u) (sym (h.entries j less)) ∙ y))
+    (λ j m y. let less : j < TXN_ENTRIES = omega (arith, n, m) in h.entries j less ∙ named_told R u (user_of R j) (ap (names u) (sym (h.entries j less)) ∙ y))
 
 last_says : (R : List Record) (t : TxnTable) (u : ℕ) → Known R → HoldsTable R t → is_active R u ≡ true → last_undo_in t.entries u ≡ last_undo R u
 last_says R t u k h on = let w = k.entered u (k.begun u on) in ap undo_told (finds_its R t u w.0 k h w.1 (k.kept u on))

@@ -1,6 +1,7 @@
 -- The bests that the model names, by the codes of the pages.
 use Rattle.std.proofs.Common.{◌≡◌, ℕ, zero, suc, ◌+◌, ◌-◌, ◌%◌, ◌<◌, ◌≤◌, min, max, true, false, cond, eqb, ltb, List, [], ◌∷◌, length, take, slice_index, slice_set, Option, Some, None, refl, sym, ◌∙◌, ap, ap₂, subst, arith, inl, inr, true≢false, ltb-true, ltb-false}
 use Rattle.std.proofs.lemmas.Bool.{cases_Bool, eqb-true, eq-eqb, ne_eqb, cond-true, cond-false, or_cases, or_left, or_right}
+use Rattle.seg_words.specs.Types.{MOST_EXTENTS, EXTENTS_OF_L2, MOST_EXTENT_BLOCKS}
 use Rattle.seg_base.specs.Classes.{class_code}
 use Rattle.seg_base.specs.declared.shape.Shape.{Shape}
 use Rattle.seg_base.specs.Places.{first_block}
@@ -98,7 +99,7 @@ first_best sh R index e m lim x =
     let to = r.1 in
     let j : ℕ = b - first_block sh e.number in
     let at : first_block sh e.number + j ≡ b = omega (arith, from) in
-    let small : j < 64 = omega (arith, from, to, most) in
+    let small : j < MOST_EXTENT_BLOCKS = omega (arith, from, to, most) in
     let code : slice_index m.codes j ≡ code_of sh R b = x.code j small ∙ ap (told_code sh R index e.number) at ∙ cond-true (is_in b bs) (code_of sh R b) 0 y in
     subst (λ (c : ℕ). good_code c ≤ codes.best_of m.codes) code (page_least m.codes j (omega (arith, small, count)))))
   where
@@ -142,22 +143,22 @@ at_below [] j e at = absurd (let z : ◌≡◌ {A = Option Extent} None (Some e)
 at_below (f ∷ es) zero e at = omega arith
 at_below (f ∷ es) (suc j) e at = (let l = at_below es j e at in omega (arith, l))
 
-second_best : (sh : Shape) (R : List Record) (o start : ℕ) (m : Summary) → length (extents_of R o) ≤ 900 → group_start start ≡ start → SecondSays sh R o start m → codes.best_of m.codes ≡ best_in_l2 sh R o start
+second_best : (sh : Shape) (R : List Record) (o start : ℕ) (m : Summary) → length (extents_of R o) ≤ MOST_EXTENTS → group_start start ≡ start → SecondSays sh R o start m → codes.best_of m.codes ≡ best_in_l2 sh R o start
 second_best sh R o start m few g x =
     let es : List Extent = extents_of R o in
     let n : ℕ = best_in_l2 sh R o start in
     let count = x.count in
     as_one (codes.best_of m.codes) n
-    (page_most m.codes n (λ j lt. (let small : j < 300 = omega (arith, lt, count) in subst (λ (c : ℕ). good_code c ≤ n) (sym (x.code j small)) (below j small (extent_at es (start + j)) refl))))
+    (page_most m.codes n (λ j lt. (let small : j < EXTENTS_OF_L2 = omega (arith, lt, count) in subst (λ (c : ℕ). good_code c ≤ n) (sym (x.code j small)) (below j small (extent_at es (start + j)) refl))))
     (group_most sh R start 0 es (codes.best_of m.codes) (λ j e at h.
     let index : 0 + j ≡ j = omega arith in
     let l = at_below es j e at in
-    let place : start + j % 300 ≡ j = group_index j start (omega (arith, l, few)) (ap group_start (sym index) ∙ h) in
-    let code : slice_index m.codes (j % 300) ≡ best_in_extent sh R j e.number = x.code (j % 300) (omega arith) ∙ ap (best_in_l1 sh R o) place ∙ ap (best_of_found sh R j) at in
+    let place : start + j % EXTENTS_OF_L2 ≡ j = group_index j start (omega (arith, l, few)) (ap group_start (sym index) ∙ h) in
+    let code : slice_index m.codes (j % EXTENTS_OF_L2) ≡ best_in_extent sh R j e.number = x.code (j % EXTENTS_OF_L2) (omega arith) ∙ ap (best_in_l1 sh R o) place ∙ ap (best_of_found sh R j) at in
     subst (λ (k : ℕ). best_in_extent sh R k e.number ≤ codes.best_of m.codes) (sym index)
-    (subst (λ (c : ℕ). c ≤ codes.best_of m.codes) (ap good_code code ∙ best_good sh R (extent_data sh j e.number)) (page_least m.codes (j % 300) (omega (arith, count))))))
+    (subst (λ (c : ℕ). c ≤ codes.best_of m.codes) (ap good_code code ∙ best_good sh R (extent_data sh j e.number)) (page_least m.codes (j % EXTENTS_OF_L2) (omega (arith, count))))))
   where
-    below : (j : ℕ) → j < 300 → (y : Option Extent) → extent_at (extents_of R o) (start + j) ≡ y → good_code (best_in_l1 sh R o (start + j)) ≤ best_in_l2 sh R o start
+    below : (j : ℕ) → j < EXTENTS_OF_L2 → (y : Option Extent) → extent_at (extents_of R o) (start + j) ≡ y → good_code (best_in_l1 sh R o (start + j)) ≤ best_in_l2 sh R o start
     below j small None at = subst (λ (z : Option Extent). good_code (best_of_found sh R (start + j) z) ≤ best_in_l2 sh R o start) (sym at) (omega arith)
     below j small (Some e) at =
         let index : 0 + (start + j) ≡ start + j = omega arith in
@@ -211,9 +212,9 @@ class_bests_are_read sh R o index e k m1 m2 s h at here formatted x1 x2 =
     (λ y ne. class_same sh R k y (ne_eqb k.dba y ne)) in
     let l1 : best_in_l1 sh S o index ≡ codes.best_of (slice_set m1.codes v c) = ap (best_of_found sh S index) at ∙ sym (first_best sh S index e n1 lim first) in
     let b : ℕ = best_in_l1 sh S o index in
-    let n2 : Summary = record m2 { codes = slice_set m2.codes (index % 300) b } in
+    let n2 : Summary = record m2 { codes = slice_set m2.codes (index % EXTENTS_OF_L2) b } in
     let l = at_below (extents_of R o) index e at in
-    let second : SecondSays sh S o i n2 = coded_second sh R S o i index (index % 300) b m2 n2 x2 refl (omega arith) (group_index index i (omega (arith, l, few)) refl) refl (λ j ne. class_others sh R o index e k j h at here ne) in
+    let second : SecondSays sh S o i n2 = coded_second sh R S o i index (index % EXTENTS_OF_L2) b m2 n2 x2 refl (omega arith) (group_index index i (omega (arith, l, few)) refl) refl (λ j ne. class_others sh R o index e k j h at here ne) in
     record { l1 = l1; l2 = sym (second_best sh S o i n2 few (group_twice index) second) }
 
 -- ---- with marks lowered
@@ -239,11 +240,11 @@ take_few zero es = omega arith
 take_few (suc k) [] = omega arith
 take_few (suc k) (e ∷ es) = (let l = take_few k es in omega (arith, l))
 
-group_none : (sh : Shape) (R : List Record) (o start : ℕ) → length (extents_of R o) ≤ 900 → group_start start ≡ start → extent_at (extents_of R o) start ≡ None → best_in_l2 sh R o start ≡ 0
+group_none : (sh : Shape) (R : List Record) (o start : ℕ) → length (extents_of R o) ≤ MOST_EXTENTS → group_start start ≡ start → extent_at (extents_of R o) start ≡ None → best_in_l2 sh R o start ≡ 0
 group_none sh R o start few g none = as_one (best_in_l2 sh R o start) 0 (group_most sh R start 0 (extents_of R o) 0 (λ j e at h.
     let index : 0 + j ≡ j = omega arith in
     let l = at_below (extents_of R o) j e at in
-    let place : start + j % 300 ≡ j = group_index j start (omega (arith, l, few)) (ap group_start (sym index) ∙ h) in
+    let place : start + j % EXTENTS_OF_L2 ≡ j = group_index j start (omega (arith, l, few)) (ap group_start (sym index) ∙ h) in
     absurd (gone (extents_of R o) start j e none at (omega (arith, place))))) (omega arith)
   where
     gone : (es : List Extent) (i j : ℕ) (e : Extent) → extent_at es i ≡ None → extent_at es j ≡ Some e → i ≤ j → ⊥
@@ -259,19 +260,19 @@ lower_bests_are_read sh R l start s h g =
     let es : List Extent = extents_of R o in
     let few = (placed sh R o h).few in
     let now : extents_of S o ≡ take l.kept es = cond-true _ _ _ (eq-eqb o o refl) in
-    let fewer : length (extents_of S o) ≤ 900 = subst (λ (xs : List Extent). length xs ≤ 900) (sym now) (let k = take_few l.kept es in omega (arith, k, few)) in
+    let fewer : length (extents_of S o) ≤ MOST_EXTENTS = subst (λ (xs : List Extent). length xs ≤ MOST_EXTENTS) (sym now) (let k = take_few l.kept es in omega (arith, k, few)) in
     let best : (i : ℕ) → best_in_l1 sh S o i ≡ best_of_found sh R i (extent_at (take l.kept es) i) = λ i. lower_codes sh R l i (extent_at (extents_of S o) i) ∙ ap (λ (xs : List Extent). best_of_found sh R i (extent_at xs i)) now in
-    let t : ℕ = min (l.kept - start) 300 in
+    let t : ℕ = min (l.kept - start) EXTENTS_OF_L2 in
     record {
-      there = λ m x. sym (second_best sh S o start (record m { codes = codes.cleared_from 300 t m.codes }) fewer g (record {
-        count = cleared_count t 300 m.codes x.count;
+      there = λ m x. sym (second_best sh S o start (record m { codes = codes.cleared_from EXTENTS_OF_L2 t m.codes }) fewer g (record {
+        count = cleared_count t EXTENTS_OF_L2 m.codes x.count;
         code = λ j lt. elim (cases_Bool (ltb j t)) [
           | inl y ↦
               let less = ltb-true j t y in
-              cleared_below t 300 j m.codes x.count less ∙ x.code j lt ∙ sym (best (start + j) ∙ ap (best_of_found sh R (start + j)) (at_front l.kept es (start + j) (omega (arith, less))))
+              cleared_below t EXTENTS_OF_L2 j m.codes x.count less ∙ x.code j lt ∙ sym (best (start + j) ∙ ap (best_of_found sh R (start + j)) (at_front l.kept es (start + j) (omega (arith, less))))
           | inr y ↦
               let more = ltb-false j t y in
-              cleared_past t 300 j m.codes x.count more ∙ sym (best (start + j) ∙ ap (best_of_found sh R (start + j)) (at_past l.kept es (start + j) (omega (arith, more, lt))))
+              cleared_past t EXTENTS_OF_L2 j m.codes x.count more ∙ sym (best (start + j) ∙ ap (best_of_found sh R (start + j)) (at_past l.kept es (start + j) (omega (arith, more, lt))))
         ];
       }));
       none = λ y. group_none sh S o start fewer g (ap (λ (xs : List Extent). extent_at xs start) now ∙ shorter l.kept es start y);

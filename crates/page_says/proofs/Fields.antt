@@ -1,7 +1,7 @@
 -- What each page of a lawful list keeps beside its block's number and its LSN, by the page's kind. What row blocks and the
 -- parts of undo blocks are is told by the model.
 use Rattle.std.proofs.Common.{◌≡◌, ℕ, zero, suc, ◌<◌, ◌≤◌, ◌^◌, List, [], ◌∷◌, ◌++◌, length, take, get_or, set, Option}
-use Rattle.seg_words.specs.Types.{AllByRecursion}
+use Rattle.seg_words.specs.Types.{AllByRecursion, TXN_ENTRIES, MOST_TABLES, MOST_EXTENTS, EXTENTS_OF_L2, MOST_PCTFREE, MOST_EXTENT_BLOCKS}
 use Rattle.bitmap_block.specs.Codes.{HasCodes}
 use Rattle.txn_block.specs.declared.entry.TableEntry.{TableEntry}
 use Rattle.txn_block.specs.EntryBytes.{IsEntry}
@@ -17,11 +17,11 @@ pub record TxnsHave (control last_txn last_row : ℕ) (current : Option ℕ) (en
   pub txn_fits : last_txn < 2 ^ 64
   pub row_fits : last_row < 2 ^ 64
   pub undo_fits : BlockFits current
-  pub count : length entries ≡ 96
+  pub count : length entries ≡ TXN_ENTRIES
   pub each : AllByRecursion IsEntry entries
 
 pub record CatalogueHas (entries : List CatalogueEntry) : Type 0 where
-  pub count : length entries ≡ 32
+  pub count : length entries ≡ MOST_TABLES
   pub each : AllByRecursion IsCatalogueEntry entries
 
 pub record SpaceHas (lowerings : ℕ) (bits : List ℕ) : Type 0 where
@@ -31,11 +31,11 @@ pub record SpaceHas (lowerings : ℕ) (bits : List ℕ) : Type 0 where
 
 pub record HeaderHas (obj pctfree low high : ℕ) (extents : List ℕ) : Type 0 where
   pub least : 1 ≤ obj
-  pub most : obj ≤ 32
-  pub pctfree_fits : pctfree ≤ 50
+  pub most : obj ≤ MOST_TABLES
+  pub pctfree_fits : pctfree ≤ MOST_PCTFREE
   pub low_fits : low < 2 ^ 32
   pub high_fits : high < 2 ^ 32
-  pub count : length extents ≤ 900
+  pub count : length extents ≤ MOST_EXTENTS
   pub each : AllByRecursion (λ x. x < 2 ^ 32) extents
 
 abbrev pub Fields : Page → Type 0
@@ -45,8 +45,8 @@ Fields (pages.Txns t) = TxnsHave t.control t.last_txn t.last_row t.current_undo 
 Fields (pages.Catalogue c) = CatalogueHas c.entries
 Fields (pages.Space s) = SpaceHas s.lowerings s.bits
 Fields (pages.Undo u) = u.sequence < 2 ^ 64
-Fields (pages.First m) = (m.incarnation < 2 ^ 64) × HasCodes 64 m.codes
-Fields (pages.Second m) = HasCodes 300 m.codes
+Fields (pages.First m) = (m.incarnation < 2 ^ 64) × HasCodes MOST_EXTENT_BLOCKS m.codes
+Fields (pages.Second m) = HasCodes EXTENTS_OF_L2 m.codes
 Fields (pages.Third m) = HasCodes 3 m.codes
 Fields (pages.Header h) = HeaderHas h.obj h.pctfree h.low h.high h.extents
 Fields (pages.Rows x) = Unit {0}

@@ -2,6 +2,7 @@
 use Rattle.std.proofs.Common.{◌≡◌, ℕ, suc, ◌+◌, ◌-◌, ◌<◌, ◌≤◌, min, Bool, true, false, cond, ◌||◌, eqb, ltb, leb, List, [], ◌∷◌, length, take, replicate, slice_index, slice_set, Option, Some, None, refl, sym, ◌∙◌, ap, subst, arith, inl, inr, ltb-true, le-leb, lt-ltb}
 use Rattle.std.proofs.lemmas.Bool.{cases_Bool, eqb-true, eqb-false, eq-eqb, ne_eqb, cond-true, cond-false, or_left, or_right, and_parts, leb-true}
 use Rattle.std.proofs.lemmas.List.{get_or-set_same, get_or-set_other, length-set}
+use Rattle.seg_words.specs.Types.{MOST_EXTENT_BLOCKS}
 use Rattle.seg_words.proofs.Lemmas.{and_from}
 use Rattle.seg_base.specs.Classes.{class_code}
 use Rattle.seg_base.specs.declared.shape.Shape.{Shape}
@@ -75,7 +76,7 @@ quiet sh R r o i e s h f at keep same n q =
 abbrev pub Coded : ℕ → ℕ → ExtentMap → ExtentMap → Type 0
 Coded v c m n = (n.incarnation ≡ m.incarnation) × (n.codes ≡ slice_set m.codes v c)
 
-pub coded_first : (sh : Shape) (R S : List Record) (i b c v : ℕ) (e : Extent) (m n : ExtentMap) → FirstSays sh R i e m → Coded v c m n → first_block sh e.number + v ≡ b → v < 64 → is_in b (extent_data sh i e.number) ≡ true
+pub coded_first : (sh : Shape) (R S : List Record) (i b c v : ℕ) (e : Extent) (m n : ExtentMap) → FirstSays sh R i e m → Coded v c m n → first_block sh e.number + v ≡ b → v < MOST_EXTENT_BLOCKS → is_in b (extent_data sh i e.number) ≡ true
     → code_of sh S b ≡ c → ((x : ℕ) → (b ≡ x → ⊥) → code_of sh S x ≡ code_of sh R x) → FirstSays sh S i e n
 coded_first sh R S i b c v e m n x k at small here code others = record {
   incarnation = k.0 ∙ x.incarnation;
@@ -229,7 +230,7 @@ unformatted sh R x i b =
     zero_code sh R x b y = rw y refl
 
 abbrev Made : ℕ → ExtentMap → Type 0
-Made lsn n = (n.incarnation ≡ lsn) × (n.codes ≡ replicate 64 0)
+Made lsn n = (n.incarnation ≡ lsn) × (n.codes ≡ replicate MOST_EXTENT_BLOCKS 0)
 
 new_step : (sh : Shape) (R : List Record) (x : ExtendRecord) (i : ℕ) → is_shape sh ≡ true → AreAllowed sh (Extend x ∷ R)
     → (n : ExtentMap) → page_of sh (Extend x ∷ R) (first_block sh x.extent) ≡ pages.First n → FirstSays sh (Extend x ∷ R) i (new_extent R x) n
@@ -255,7 +256,7 @@ new_step sh R x i s h n q =
     record {
       incarnation = is.0;
       count = ap (λ (cs : List ℕ). length cs) is.1;
-      code = λ j lt. ap (λ (cs : List ℕ). slice_index cs j) is.1 ∙ zero_at 64 j ∙ sym (unformatted sh R x i (d + j));
+      code = λ j lt. ap (λ (cs : List ℕ). slice_index cs j) is.1 ∙ zero_at MOST_EXTENT_BLOCKS j ∙ sym (unformatted sh R x i (d + j));
     }
 
 -- ---- the induction

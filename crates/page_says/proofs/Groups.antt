@@ -1,5 +1,6 @@
 -- The groups of 300 extents that the second levels cover, and which records name the second level of a group.
 use Rattle.std.proofs.Common.{◌≡◌, ◌⊎◌, ℕ, ◌+◌, ◌*◌, ◌/◌, ◌%◌, ◌<◌, ◌≤◌, true, false, eqb, ltb, ◌&&◌, List, Option, Some, None, refl, sym, ◌∙◌, ap, arith, inl, inr, true≢false, eq-eqb, ltb-true, ltb-false}
+use Rattle.seg_words.specs.Types.{MOST_EXTENTS, EXTENTS_OF_L2}
 use Rattle.seg_words.proofs.Lemmas.{cases_Bool, cond-true, cond-false, and_from}
 use Rattle.seg_base.specs.declared.shape.Shape.{Shape}
 use Rattle.seg_base.specs.Places.{first_block, is_shape}
@@ -10,23 +11,23 @@ use Rattle.redo_laws.proofs.numbers.Bounds.{limits}
 use Rattle.space_laws.proofs.ExtentsLaw.{same_place}
 use Rattle.sort_laws.proofs.SortsLaw.{has_number}
 
-group_cases : (n : ℕ) → ((group_start n ≡ 0) × (n < 300)) ⊎ (((group_start n ≡ 300) × (300 ≤ n) × (n < 600)) ⊎ ((group_start n ≡ 600) × (600 ≤ n)))
-group_cases n = elim (cases_Bool (ltb n 300)) [
-  | inl y ↦ inl (cond-true _ _ _ y, ltb-true n 300 y)
-  | inr f ↦ inr (elim (cases_Bool (ltb n 600)) [
-    | inl y ↦ inl (cond-false _ _ _ f ∙ cond-true _ _ _ y, ltb-false n 300 f, ltb-true n 600 y)
-    | inr g ↦ inr (cond-false _ _ _ f ∙ cond-false _ _ _ g, ltb-false n 600 g)
+group_cases : (n : ℕ) → ((group_start n ≡ 0) × (n < EXTENTS_OF_L2)) ⊎ (((group_start n ≡ EXTENTS_OF_L2) × (EXTENTS_OF_L2 ≤ n) × (n < (2 * EXTENTS_OF_L2))) ⊎ ((group_start n ≡ (2 * EXTENTS_OF_L2)) × ((2 * EXTENTS_OF_L2) ≤ n)))
+group_cases n = elim (cases_Bool (ltb n EXTENTS_OF_L2)) [
+  | inl y ↦ inl (cond-true _ _ _ y, ltb-true n EXTENTS_OF_L2 y)
+  | inr f ↦ inr (elim (cases_Bool (ltb n (2 * EXTENTS_OF_L2))) [
+    | inl y ↦ inl (cond-false _ _ _ f ∙ cond-true _ _ _ y, ltb-false n EXTENTS_OF_L2 f, ltb-true n (2 * EXTENTS_OF_L2) y)
+    | inr g ↦ inr (cond-false _ _ _ f ∙ cond-false _ _ _ g, ltb-false n (2 * EXTENTS_OF_L2) g)
   ])
 ]
 
 -- the first index of a group
-pub group_first : (i : ℕ) → group_start i ≡ i → (i ≡ 0) ⊎ ((i ≡ 300) ⊎ (i ≡ 600))
+pub group_first : (i : ℕ) → group_start i ≡ i → (i ≡ 0) ⊎ ((i ≡ EXTENTS_OF_L2) ⊎ (i ≡ (2 * EXTENTS_OF_L2)))
 group_first i g = elim (group_cases i) [
   | inl a ↦ inl (sym g ∙ a.0)
   | inr w ↦ inr (elim w [ inl a ↦ inl (sym g ∙ a.0) | inr a ↦ inr (sym g ∙ a.0) ])
 ]
 
-pub group_of : (i j : ℕ) → group_start i ≡ i → j < 300 → group_start (i + j) ≡ i
+pub group_of : (i j : ℕ) → group_start i ≡ i → j < EXTENTS_OF_L2 → group_start (i + j) ≡ i
 group_of i j g lt = elim (group_first i g) [
   | inl a ↦ elim (group_cases (i + j)) [
     | inl b ↦ b.0 ∙ sym a
@@ -44,16 +45,16 @@ group_of i j g lt = elim (group_first i g) [
   ]
 ]
 
-pub group_index : (n i : ℕ) → n < 900 → group_start n ≡ i → i + n % 300 ≡ n
+pub group_index : (n i : ℕ) → n < MOST_EXTENTS → group_start n ≡ i → i + n % EXTENTS_OF_L2 ≡ n
 group_index n i lt g = elim (group_cases n) [
   | inl a ↦ (let z : i ≡ 0 = sym g ∙ a.0 in let x = a.1 in omega (arith, z, x))
   | inr w ↦ elim w [
-    | inl a ↦ (let z : i ≡ 300 = sym g ∙ a.0 in let x = a.1 in let y = a.2 in omega (arith, z, x, y))
-    | inr a ↦ (let z : i ≡ 600 = sym g ∙ a.0 in let x = a.1 in omega (arith, z, x, lt))
+    | inl a ↦ (let z : i ≡ EXTENTS_OF_L2 = sym g ∙ a.0 in let x = a.1 in let y = a.2 in omega (arith, z, x, y))
+    | inr a ↦ (let z : i ≡ (2 * EXTENTS_OF_L2) = sym g ∙ a.0 in let x = a.1 in omega (arith, z, x, lt))
   ]
 ]
 
-pub group_number : (n : ℕ) → n < 900 → group_start n ≡ 300 * (n / 300)
+pub group_number : (n : ℕ) → n < MOST_EXTENTS → group_start n ≡ EXTENTS_OF_L2 * (n / EXTENTS_OF_L2)
 group_number n lt = elim (group_cases n) [
   | inl a ↦ a.0 ∙ (let x = a.1 in omega (arith, x))
   | inr w ↦ elim w [

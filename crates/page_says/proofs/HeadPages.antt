@@ -1,6 +1,7 @@
 -- The pages at the first blocks of an extent of a table: of which kind they are, and which blocks these are not.
 use Rattle.std.proofs.Common.{◌≡◌, ◌⊎◌, ℕ, zero, suc, ◌+◌, ◌<◌, ◌≤◌, true, false, cond, eqb, List, [], ◌∷◌, ◌++◌, length, replicate, slice_index, Option, Some, None, refl, sym, ◌∙◌, ap, subst, arith, inl, inr}
 use Rattle.std.proofs.lemmas.Bool.{eqb-true, cond-true}
+use Rattle.seg_words.specs.Types.{LEAST_EXTENT_BLOCKS}
 use Rattle.seg_base.specs.declared.shape.Shape.{Shape}
 use Rattle.seg_base.specs.Places.{first_block, head_blocks, is_shape}
 use Rattle.bitmap_block.specs.Pages.{ExtentMap, Summary}
@@ -54,7 +55,7 @@ either_page P sh R r d p e f g =
 -- ---- blocks
 
 -- the nth block of extent x isn't the mth one of any
-pub not_block : (sh : Shape) (x n m d b : ℕ) (o : Option Extent) → Limits sh → n < 8 → m < 8 → (n ≡ m → ⊥) → d ≡ first_block sh x + n → b ≡ block_in sh o m → d ≡ b → ⊥
+pub not_block : (sh : Shape) (x n m d b : ℕ) (o : Option Extent) → Limits sh → n < LEAST_EXTENT_BLOCKS → m < LEAST_EXTENT_BLOCKS → (n ≡ m → ⊥) → d ≡ first_block sh x + n → b ≡ block_in sh o m → d ≡ b → ⊥
 not_block sh x n m d b None l ln lm ne is at e = omega (arith, is, at, e)
 not_block sh x n m d b (Some y) l ln lm ne is at e = ne ((one_place sh x y.number n m l ln lm (sym is ∙ e ∙ at)).1)
 

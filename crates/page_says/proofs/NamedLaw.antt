@@ -3,7 +3,7 @@ use Rattle.std.proofs.Common.{◌≡◌, ℕ, zero, suc, ◌+◌, ◌-◌, ◌<�
 use Rattle.std.specs.Prelude.{position, option_map}
 use Rattle.std.proofs.lemmas.Bool.{cases_Bool, cases_order, eqb-true, eq-eqb, ne_eqb, cond-true, cond-false, true≢false, and_parts}
 use Rattle.std.proofs.lemmas.List.{get_or-set_same, get_or-set_other, length-set}
-use Rattle.seg_words.specs.Types.{Shape, is_shape}
+use Rattle.seg_words.specs.Types.{Shape, is_shape, MOST_TABLES}
 use Rattle.segment_blocks.specs.Types as blocks
 use Rattle.segment_blocks.specs.declared.entry.CatalogueEntry.{CatalogueEntry}
 use Rattle.segment_blocks.specs.declared.entry.NamedTable.{NamedTable}
@@ -26,7 +26,7 @@ use Rattle.page_says.proofs.Naming.{position_new, position_same, count_new, same
 
 -- the entries of a list's tables
 record Has (R : List Record) (es : List CatalogueEntry) : Type 0 where
-  count : length es ≡ 32
+  count : length es ≡ MOST_TABLES
   table : (i : ℕ) → i < table_count R → get_or es i no_table ≡ record { table = Some (stated_table R (suc i)) }
   rest : (i : ℕ) → table_count R ≤ i → get_or es i no_table ≡ no_table
   tables : blocks.table_count es ≡ table_count R
@@ -49,11 +49,11 @@ none_there zero i = refl
 none_there (suc n) zero = refl
 none_there (suc n) (suc i) = none_there n i
 
-has_none : (R : List Record) → table_count R ≡ 0 → Has R (replicate 32 no_table)
+has_none : (R : List Record) → table_count R ≡ 0 → Has R (replicate MOST_TABLES no_table)
 has_none R n = record {
   count = refl;
   table = λ i l. absurd (omega (arith, l, n));
-  rest = λ i l. none_there 32 i;
+  rest = λ i l. none_there MOST_TABLES i;
   tables = sym n;
   named = λ name. sym (none_named R name n);
 }
@@ -142,7 +142,7 @@ kept R S (pages.Header x) n t m h = absurd h
 kept R S (pages.Rows x) n t m h = absurd h
 
 table_keeps : (sh : Shape) (R : List Record) (t : TableRecord) (lsn : ℕ) (p : Page) → TableAllowed sh R t → Keeps R p → Keeps (Table t ∷ R) (page_after (Table t) lsn (or_kept (as_catalogue p) p))
-table_keeps sh R t lsn (pages.Zero x) a h = (omega arith, has_more sh R t (replicate 32 no_table) a (has_none R h))
+table_keeps sh R t lsn (pages.Zero x) a h = (omega arith, has_more sh R t (replicate MOST_TABLES no_table) a (has_none R h))
 table_keeps sh R t lsn (pages.Catalogue x) a h = (omega arith, has_more sh R t x.entries a h.1)
 table_keeps sh R t lsn (pages.Checkpoint x) a h = absurd h
 table_keeps sh R t lsn (pages.Txns x) a h = absurd h

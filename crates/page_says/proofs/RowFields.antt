@@ -1,7 +1,7 @@
 -- A page that says what the model says of a row block, or of an undo block, has a spelling.
 use Rattle.std.proofs.Common.{◌≡◌, ℕ, suc, ◌<◌, ◌≤◌, ◌^◌, true, List, length, map, Option, Some, None, refl, sym, subst, arith}
 use Rattle.seg_words.proofs.Lemmas.{All-from_recursion}
-use Rattle.seg_words.specs.Types.{AllByRecursion, Shape, is_shape, Slot, UndoAddr, Rowid, Block, new_slot, new_entry}
+use Rattle.seg_words.specs.Types.{AllByRecursion, Shape, is_shape, Slot, UndoAddr, Rowid, Block, new_slot, new_entry, BLOCK_ROOM}
 use Rattle.page_bytes.specs.Types.{UndoFits, LinkFits, IsSlot, UndoIsThere, LinkIsThere, HasSlotForm, IsListEntry}
 use Rattle.row_block.specs.RowPage.{RowPage, IsHeld}
 use Rattle.row_block.specs.Spelling.{IsRowPage}
@@ -74,5 +74,5 @@ undo_spelled sh R b u s l h dba lsn sequence is =
       lsn = lsn;
       sequence = sequence;
       parts = subst (AllByRecursion IsPart) (sym is) k.parts;
-      used = subst (λ (ps : List Part). used_by ps ≤ 4032) (sym is) k.used;
+      used = subst (λ (ps : List Part). used_by ps ≤ BLOCK_ROOM) (sym is) k.used;
     }

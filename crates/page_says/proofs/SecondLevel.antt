@@ -1,7 +1,8 @@
 -- The page of a second level: one induction over the list.
-use Rattle.std.proofs.Common.{◌≡◌, ℕ, zero, suc, ◌+◌, ◌-◌, ◌%◌, ◌<◌, ◌≤◌, min, Bool, true, false, cond, ◌&&◌, ◌||◌, eqb, ltb, leb, List, [], ◌∷◌, ◌++◌, length, take, drop, replicate, slice_index, slice_set, Option, Some, None, refl, sym, ◌∙◌, ap, ap₂, subst, arith, inl, inr, true≢false, ltb-true, ltb-false}
+use Rattle.std.proofs.Common.{◌≡◌, ℕ, zero, suc, ◌+◌, ◌-◌, ◌%◌, ◌<◌, ◌≤◌, min, Bool, true, false, cond, ◌&&◌, ◌||◌, eqb, ltb, leb, List, [], ◌∷◌, ◌++◌, length, take, drop, replicate, slice_index, slice_set, Option, Some, None, refl, sym, ◌∙◌, ap, ap₂, subst, arith, inl, inr, true≢false, ltb-true, ltb-false, ◌*◌}
 use Rattle.std.proofs.lemmas.Bool.{cases_Bool, eqb-true, eqb-false, eq-eqb, ne_eqb, cond-true, cond-false, or_left, or_right, and_parts, leb-true}
 use Rattle.std.proofs.lemmas.List.{get_or-set_same, get_or-set_other, length-set}
+use Rattle.seg_words.specs.Types.{MOST_EXTENTS, EXTENTS_OF_L2}
 use Rattle.seg_base.specs.declared.shape.Shape.{Shape}
 use Rattle.seg_base.specs.Places.{first_block, head_blocks, is_extent, is_shape}
 use Rattle.bitmap_block.specs.Codes.{cleared_from}
@@ -58,7 +59,7 @@ second_head sh R o i e h at g = record { table = has_table sh R o i e h at; exte
 
 -- ---- a record that leaves the codes
 
-same_second : (sh : Shape) (R S : List Record) (o i : ℕ) (m n : Summary) → SecondSays sh R o i m → n.codes ≡ m.codes → ((j : ℕ) → j < 300 → best_in_l1 sh S o (i + j) ≡ best_in_l1 sh R o (i + j)) → SecondSays sh S o i n
+same_second : (sh : Shape) (R S : List Record) (o i : ℕ) (m n : Summary) → SecondSays sh R o i m → n.codes ≡ m.codes → ((j : ℕ) → j < EXTENTS_OF_L2 → best_in_l1 sh S o (i + j) ≡ best_in_l1 sh R o (i + j)) → SecondSays sh S o i n
 same_second sh R S o i m n x k same = record {
   count = ap (λ (cs : List ℕ). length cs) k ∙ x.count;
   code = λ j lt. ap (λ (cs : List ℕ). slice_index cs j) k ∙ x.code j lt ∙ sym (same j lt);
@@ -81,7 +82,7 @@ quiet sh R r o i e s h f at g keep none n q =
 abbrev pub Coded : ℕ → ℕ → Summary → Summary → Type 0
 Coded v c m n = n.codes ≡ slice_set m.codes v c
 
-pub coded_second : (sh : Shape) (R S : List Record) (o i index v c : ℕ) (m n : Summary) → SecondSays sh R o i m → Coded v c m n → v < 300 → i + v ≡ index
+pub coded_second : (sh : Shape) (R S : List Record) (o i index v c : ℕ) (m n : Summary) → SecondSays sh R o i m → Coded v c m n → v < EXTENTS_OF_L2 → i + v ≡ index
     → best_in_l1 sh S o index ≡ c → ((j : ℕ) → (index ≡ j → ⊥) → best_in_l1 sh S o j ≡ best_in_l1 sh R o j) → SecondSays sh S o i n
 coded_second sh R S o i index v c m n x k small at code others = record {
   count = ap (λ (cs : List ℕ). length cs) k ∙ length-set m.codes v c ∙ x.count;
@@ -102,10 +103,10 @@ coded_second sh R S o i index v c m n x k small at code others = record {
 }
 
 -- the record touches the second level of the extent's group, and no other one
-index_step : (sh : Shape) (R : List Record) (r : Record) (obj index c o i : ℕ) (e : Extent) → is_shape sh ≡ true → AreAllowed sh (r ∷ R) → SecondsSay sh R → extent_at (extents_of R o) i ≡ Some e → group_start i ≡ i → index < 900
+index_step : (sh : Shape) (R : List Record) (r : Record) (obj index c o i : ℕ) (e : Extent) → is_shape sh ≡ true → AreAllowed sh (r ∷ R) → SecondsSay sh R → extent_at (extents_of R o) i ≡ Some e → group_start i ≡ i → index < MOST_EXTENTS
     → (obj ≡ o → group_start index ≡ i → is_among (touched sh r) (first_block sh e.number + 1) ≡ true)
     → ((eqb obj o && eqb (group_start index) i) ≡ false → is_among (touched sh r) (first_block sh e.number + 1) ≡ false)
-    → (obj ≡ o → group_start index ≡ i → (m : Summary) → m.dba ≡ first_block sh e.number + 1 → OnSecond (Coded (index % 300) c m) (changed_page r (suc (length R)) (pages.Second m)))
+    → (obj ≡ o → group_start index ≡ i → (m : Summary) → m.dba ≡ first_block sh e.number + 1 → OnSecond (Coded (index % EXTENTS_OF_L2) c m) (changed_page r (suc (length R)) (pages.Second m)))
     → best_in_l1 sh (r ∷ R) obj index ≡ c → ((j : ℕ) → (eqb obj o && eqb index j) ≡ false → names_l1 r o j ≡ false)
     → (n : Summary) → page_of sh (r ∷ R) (first_block sh e.number + 1) ≡ pages.Second n → SecondSays sh (r ∷ R) o i n
 index_step sh R r obj index c o i e s h f at g few own other changed best names n q =
@@ -120,8 +121,8 @@ index_step sh R r obj index c o i e s h f at g few own other changed best names 
           let table : obj ≡ o = eqb-true obj o p.0 in
           let start : group_start index ≡ i = eqb-true (group_start index) i p.1 in
           let page = touched_page sh R r d (pages.Second k.0) (own table start) k.1 in
-          let is : OnSecond (Coded (index % 300) c k.0) (pages.Second n) = subst (OnSecond (Coded (index % 300) c k.0)) (sym page ∙ q) (changed table start k.0 dba) in
-          coded_second sh R (r ∷ R) o i index (index % 300) c k.0 n (f o i e at g k.0 k.1) is (omega arith) (group_index index i few start)
+          let is : OnSecond (Coded (index % EXTENTS_OF_L2) c k.0) (pages.Second n) = subst (OnSecond (Coded (index % EXTENTS_OF_L2) c k.0)) (sym page ∙ q) (changed table start k.0 dba) in
+          coded_second sh R (r ∷ R) o i index (index % EXTENTS_OF_L2) c k.0 n (f o i e at g k.0 k.1) is (omega arith) (group_index index i few start)
           (subst (λ (x : ℕ). best_in_l1 sh (r ∷ R) x index ≡ c) table best)
           (λ j ne. stay j (names j (off _ (λ z. ne (eqb-true index j (and_parts (eqb obj o) (eqb index j) z).1)))))
       | inr z ↦
@@ -154,7 +155,7 @@ format_step sh R x o i e s h f at g n q =
     index_step sh R (FormatBlock x) x.obj x.index x.best_of_l1 o i e s h f at g ((records_meet_sorts sh R (FormatBlock x) s h).format x refl).few
     (λ y z. or_right (eqb x.dba d) _ (or_left (eqb x.l2 d) _ (eq-eqb x.l2 d (l2_is sh R x.obj x.index x.l2 o i e a.bitmaps.l2_is y z at))))
     (λ y. no_among x.dba (x.l2 ∷ x.l3 ∷ first_of sh x.dba ∷ []) d out ∙ maps_apart sh R x.obj x.dba x.l2 x.l3 x.index o i e s h.0 a.bitmaps here at y)
-    (λ y z m is. subst (λ (v : Bool). OnSecond (Coded (x.index % 300) x.best_of_l1 m) (page_after (FormatBlock x) lsn (or_kept (cond v (Some (new_rows m.dba)) None) (pages.Second m)))) (sym (ne_eqb x.dba m.dba (λ w. out (sym is ∙ sym w)))) refl)
+    (λ y z m is. subst (λ (v : Bool). OnSecond (Coded (x.index % EXTENTS_OF_L2) x.best_of_l1 m) (page_after (FormatBlock x) lsn (or_kept (cond v (Some (new_rows m.dba)) None) (pages.Second m)))) (sym (ne_eqb x.dba m.dba (λ w. out (sym is ∙ sym w)))) refl)
     ((bests_are_stated sh R).format_l1 x h) (λ j y. y) n q
 
 class_step : (sh : Shape) (R : List Record) (x : ClassRecord) (o i : ℕ) (e : Extent) → is_shape sh ≡ true → AreAllowed sh (Class x ∷ R) → SecondsSay sh R → extent_at (extents_of R o) i ≡ Some e → group_start i ≡ i
@@ -191,7 +192,7 @@ extend_touches x sh d e = or_right (eqb 3 d) _ (or_right (eqb x.header d) _ (or_
 
 -- the page of the second level that the record names is made anew with the first extent of its group
 extend_starts : (sh : Shape) (R : List Record) (x : ExtendRecord) (lsn : ℕ) (e : Extent) (p : Page) → is_shape sh ≡ true → AreAllowed sh (Extend x ∷ R) → dba_of p ≡ first_block sh e.number + 1 → x.l2 ≡ first_block sh e.number + 1
-    → started (Extend x) lsn p ≡ cond (eqb (x.index % 300) 0) (Some (new_second (dba_of p))) None
+    → started (Extend x) lsn p ≡ cond (eqb (x.index % EXTENTS_OF_L2) 0) (Some (new_second (dba_of p))) None
 extend_starts sh R x lsn e p s h dba at =
     let S : List Record = Extend x ∷ R in
     let lim = limits sh s in
@@ -217,22 +218,22 @@ old_step sh R x o i e s h f at now g n q =
     (λ y z. extend_touches x sh d (l2 y z))
     (λ y. extend_apart sh R x e s h (l2_not sh S x.obj x.index x.l2 o i d e s h a.l2 y now refl))
     (λ y z m is.
-    let later : x.index % 300 ≡ 0 → ⊥ = λ w.
+    let later : x.index % EXTENTS_OF_L2 ≡ 0 → ⊥ = λ w.
     let same : i ≡ x.index = (let v = group_index x.index i a.few z in omega (arith, v, w)) in
     let end : extent_at (extents_of R o) i ≡ None = at_none (extents_of R o) i (let v : x.index ≡ length (extents_of R o) = subst (λ (p : ℕ). x.index ≡ length (extents_of R p)) y a.index in omega (arith, v, same)) in
     (let v : ◌≡◌ {A = Option Extent} None (Some e) = sym end ∙ at in cc) in
-    let none : started (Extend x) lsn (pages.Second m) ≡ None = extend_starts sh R x lsn e (pages.Second m) s h is (l2 y z) ∙ cond-false _ _ _ (ne_eqb (x.index % 300) 0 later) in
-    subst (λ (o : Option Page). OnSecond (Coded (x.index % 300) 0 m) (page_after (Extend x) lsn (or_kept o (pages.Second m)))) (sym none) refl)
+    let none : started (Extend x) lsn (pages.Second m) ≡ None = extend_starts sh R x lsn e (pages.Second m) s h is (l2 y z) ∙ cond-false _ _ _ (ne_eqb (x.index % EXTENTS_OF_L2) 0 later) in
+    subst (λ (o : Option Page). OnSecond (Coded (x.index % EXTENTS_OF_L2) 0 m) (page_after (Extend x) lsn (or_kept o (pages.Second m)))) (sym none) refl)
     ((bests_are_stated sh R).extend_l1 x h) (λ j y. y) n q
 
-zeros_set : (v j : ℕ) → v < 300 → slice_index (slice_set (replicate 300 0) v 0) j ≡ 0
+zeros_set : (v j : ℕ) → v < EXTENTS_OF_L2 → slice_index (slice_set (replicate EXTENTS_OF_L2 0) v 0) j ≡ 0
 zeros_set v j lt = elim (cases_Bool (eqb j v)) [
-  | inl y ↦ ap (λ (l : ℕ). slice_index (slice_set (replicate 300 0) v 0) l) (eqb-true j v y) ∙ get_or-set_same (replicate 300 0) v 0 0 lt
-  | inr f ↦ get_or-set_other (replicate 300 0) v j 0 0 (eqb-false j v f) ∙ zero_at 300 j
+  | inl y ↦ ap (λ (l : ℕ). slice_index (slice_set (replicate EXTENTS_OF_L2 0) v 0) l) (eqb-true j v y) ∙ get_or-set_same (replicate EXTENTS_OF_L2 0) v 0 0 lt
+  | inr f ↦ get_or-set_other (replicate EXTENTS_OF_L2 0) v j 0 0 (eqb-false j v f) ∙ zero_at EXTENTS_OF_L2 j
 ]
 
 abbrev Made : ℕ → Summary → Type 0
-Made v n = n.codes ≡ slice_set (replicate 300 0) v 0
+Made v n = n.codes ≡ slice_set (replicate EXTENTS_OF_L2 0) v 0
 
 -- the first extent of its group
 new_step : (sh : Shape) (R : List Record) (x : ExtendRecord) (o i : ℕ) → is_shape sh ≡ true → AreAllowed sh (Extend x ∷ R) → x.obj ≡ o → i ≡ length (extents_of R o) → extent_at (extents_of (Extend x ∷ R) o) i ≡ Some (new_extent R x) → group_start i ≡ i
@@ -248,17 +249,17 @@ new_step sh R x o i s h table last now g n q =
     let index : x.index ≡ i = subst (λ (p : ℕ). x.index ≡ length (extents_of R p)) table a.index ∙ sym last in
     let at : x.l2 ≡ d = l2_is sh S x.obj x.index x.l2 o i (new_extent R x) a.l2 table (ap group_start index ∙ g) now in
     let dba : dba_of p ≡ d = dba_says R d p (says sh R d) in
-    let whole : x.index % 300 ≡ 0 = elim (group_first i g) [ inl y ↦ omega (arith, y, index) | inr w ↦ elim w [ inl y ↦ omega (arith, y, index) | inr y ↦ omega (arith, y, index) ] ] in
+    let whole : x.index % EXTENTS_OF_L2 ≡ 0 = elim (group_first i g) [ inl y ↦ omega (arith, y, index) | inr w ↦ elim w [ inl y ↦ omega (arith, y, index) | inr y ↦ omega (arith, y, index) ] ] in
     let made : changed_page (Extend x) lsn p ≡ page_after (Extend x) lsn (new_second (dba_of p)) =
-    ap (λ (o : Option Page). page_after (Extend x) lsn (or_kept o p)) (extend_starts sh R x lsn (new_extent R x) p s h dba at ∙ cond-true _ _ _ (eq-eqb (x.index % 300) 0 whole)) in
-    let is : OnSecond (Made (x.index % 300)) (pages.Second n) = subst (OnSecond (Made (x.index % 300))) (sym made ∙ sym (touched_page sh R (Extend x) d p (extend_touches x sh d at) refl) ∙ q) refl in
+    ap (λ (o : Option Page). page_after (Extend x) lsn (or_kept o p)) (extend_starts sh R x lsn (new_extent R x) p s h dba at ∙ cond-true _ _ _ (eq-eqb (x.index % EXTENTS_OF_L2) 0 whole)) in
+    let is : OnSecond (Made (x.index % EXTENTS_OF_L2)) (pages.Second n) = subst (OnSecond (Made (x.index % EXTENTS_OF_L2))) (sym made ∙ sym (touched_page sh R (Extend x) d p (extend_touches x sh d at) refl) ∙ q) refl in
     let first : best_in_l1 sh S o i ≡ 0 = subst (λ (p : ℕ). best_in_l1 sh S p i ≡ 0) table (subst (λ (k : ℕ). best_in_l1 sh S x.obj k ≡ 0) index ((bests_are_stated sh R).extend_l1 x h)) in
     let past : (j : ℕ) → (i ≡ j → ⊥) → i ≤ j → best_in_l1 sh S o j ≡ 0 = λ j ne le.
     stay j (off _ (λ y. ne (sym index ∙ eqb-true x.index j (and_parts (eqb x.obj o) (eqb x.index j) y).1)))
     ∙ ap (best_of_found sh R j) (at_none (extents_of R o) j (omega (arith, last, le))) in
     record {
-      count = ap (λ (cs : List ℕ). length cs) is ∙ length-set (replicate 300 0) (x.index % 300) 0;
-      code = λ j lt. ap (λ (cs : List ℕ). slice_index cs j) is ∙ zeros_set (x.index % 300) j (omega arith) ∙ sym (elim (cases_Bool (eqb i (i + j))) [
+      count = ap (λ (cs : List ℕ). length cs) is ∙ length-set (replicate EXTENTS_OF_L2 0) (x.index % EXTENTS_OF_L2) 0;
+      code = λ j lt. ap (λ (cs : List ℕ). slice_index cs j) is ∙ zeros_set (x.index % EXTENTS_OF_L2) j (omega arith) ∙ sym (elim (cases_Bool (eqb i (i + j))) [
         | inl y ↦ ap (best_in_l1 sh S o) (sym (eqb-true i (i + j) y)) ∙ first
         | inr w ↦ past (i + j) (eqb-false i (i + j) w) (omega arith)
       ]);
@@ -315,8 +316,8 @@ slot_among : (sh : Shape) (es : List Extent) (i : ℕ) (e : Extent) → group_st
 slot_among sh es i e g at = elim (group_first i g) [
   | inl y ↦ those_here sh (extent_at es 0) e _ (subst (λ (k : ℕ). extent_at es k ≡ Some e) y at)
   | inr w ↦ those_more (l2_at sh (extent_at es 0)) _ (first_block sh e.number + 1) (elim w [
-    | inl y ↦ those_here sh (extent_at es 300) e _ (subst (λ (k : ℕ). extent_at es k ≡ Some e) y at)
-    | inr y ↦ those_more (l2_at sh (extent_at es 300)) _ (first_block sh e.number + 1) (those_here sh (extent_at es 600) e [] (subst (λ (k : ℕ). extent_at es k ≡ Some e) y at))
+    | inl y ↦ those_here sh (extent_at es EXTENTS_OF_L2) e _ (subst (λ (k : ℕ). extent_at es k ≡ Some e) y at)
+    | inr y ↦ those_more (l2_at sh (extent_at es EXTENTS_OF_L2)) _ (first_block sh e.number + 1) (those_here sh (extent_at es (2 * EXTENTS_OF_L2)) e [] (subst (λ (k : ℕ). extent_at es k ≡ Some e) y at))
   ])
 ]
 
@@ -341,13 +342,13 @@ covered_is sh R k o i e s h at g =
     elim (group_first i g) [
       | inl y ↦ cond-true _ _ _ (slot_is sh (extent_at es 0) e (subst (λ (j : ℕ). extent_at es j ≡ Some e) y at)) ∙ sym y
       | inr w ↦ cond-false _ _ _ (slot_not sh R o k 0 o i e s h old (λ p z. elim w [ inl y ↦ omega (arith, z, y) | inr y ↦ omega (arith, z, y) ])) ∙ elim w [
-        | inl y ↦ cond-true _ _ _ (slot_is sh (extent_at es 300) e (subst (λ (j : ℕ). extent_at es j ≡ Some e) y at)) ∙ sym y
-        | inr y ↦ cond-false _ _ _ (slot_not sh R o k 300 o i e s h old (λ p z. omega (arith, z, y))) ∙ sym y
+        | inl y ↦ cond-true _ _ _ (slot_is sh (extent_at es EXTENTS_OF_L2) e (subst (λ (j : ℕ). extent_at es j ≡ Some e) y at)) ∙ sym y
+        | inr y ↦ cond-false _ _ _ (slot_not sh R o k EXTENTS_OF_L2 o i e s h old (λ p z. omega (arith, z, y))) ∙ sym y
       ]
     ]
 
 abbrev Cleared : ℕ → Summary → Summary → Type 0
-Cleared t m n = n.codes ≡ cleared_from 300 t m.codes
+Cleared t m n = n.codes ≡ cleared_from EXTENTS_OF_L2 t m.codes
 
 -- of its own table
 own_lower : (sh : Shape) (R : List Record) (l : LowerRecord) (o i : ℕ) (e : Extent) → is_shape sh ≡ true → AreAllowed sh (Lower l ∷ R) → SecondsSay sh R → l.obj ≡ o → extent_at (take l.kept (extents_of R o)) i ≡ Some e → group_start i ≡ i
@@ -366,17 +367,17 @@ own_lower sh R l o i e s h f table at g n q =
     let l2 : l.l2 ≡ all_l2 sh (take l.kept (extents_of R o)) = subst (λ (p : ℕ). l.l2 ≡ all_l2 sh (take l.kept (extents_of R p))) table h.1.kind.l2 in
     let among : is_among (touched sh (Lower l)) d ≡ true = or_right (eqb 3 d) _ (or_right (eqb l.header d) _ (or_right (eqb l.l3 d) _ (ap (λ (os : List (Option ℕ)). is_among (those os) d) l2 ∙ slot_among sh (take l.kept (extents_of R o)) i e g at))) in
     let from : covered_from l.l2 k.0.dba ≡ i = ap₂ covered_from l2 dba ∙ covered_is sh R l.kept o i e s h.0 at g in
-    let t : ℕ = min (l.kept - i) 300 in
-    let is : OnSecond (Cleared t k.0) (pages.Second n) = subst (OnSecond (Cleared t k.0)) (sym (touched_page sh R (Lower l) d (pages.Second k.0) among k.1) ∙ q) (ap (λ (c : ℕ). cleared_from 300 (min (l.kept - c) 300) k.0.codes) from) in
+    let t : ℕ = min (l.kept - i) EXTENTS_OF_L2 in
+    let is : OnSecond (Cleared t k.0) (pages.Second n) = subst (OnSecond (Cleared t k.0)) (sym (touched_page sh R (Lower l) d (pages.Second k.0) among k.1) ∙ q) (ap (λ (c : ℕ). cleared_from EXTENTS_OF_L2 (min (l.kept - c) EXTENTS_OF_L2) k.0.codes) from) in
     record {
-      count = ap (λ (cs : List ℕ). length cs) is ∙ cleared_count t 300 k.0.codes x.count;
+      count = ap (λ (cs : List ℕ). length cs) is ∙ cleared_count t EXTENTS_OF_L2 k.0.codes x.count;
       code = λ j lt. ap (λ (cs : List ℕ). slice_index cs j) is ∙ elim (cases_Bool (ltb j t)) [
         | inl y ↦
             let less = ltb-true j t y in
-            cleared_below t 300 j k.0.codes x.count less ∙ x.code j lt ∙ sym (stay (i + j) (off _ (λ w. (let v = leb-true l.kept (i + j) (and_parts (eqb l.obj o) (leb l.kept (i + j)) w).1 in omega (arith, v, less, below)))))
+            cleared_below t EXTENTS_OF_L2 j k.0.codes x.count less ∙ x.code j lt ∙ sym (stay (i + j) (off _ (λ w. (let v = leb-true l.kept (i + j) (and_parts (eqb l.obj o) (leb l.kept (i + j)) w).1 in omega (arith, v, less, below)))))
         | inr y ↦
             let more = ltb-false j t y in
-            cleared_past t 300 j k.0.codes x.count more ∙ sym (subst (λ (p : ℕ). best_in_l1 sh S p (i + j) ≡ 0) table ((bests_are_stated sh R).lower_l1 l (i + j) h (omega (arith, more, lt, below))))
+            cleared_past t EXTENTS_OF_L2 j k.0.codes x.count more ∙ sym (subst (λ (p : ℕ). best_in_l1 sh S p (i + j) ≡ 0) table ((bests_are_stated sh R).lower_l1 l (i + j) h (omega (arith, more, lt, below))))
       ];
     }
 
@@ -404,8 +405,8 @@ other_lower sh R l o i e s h f other at g n q =
     ∙ no_among l.header (l.l3 ∷ those l.l2) d (not_block sh e.number 1 3 d l.header (extent_at (extents_of R l.obj) 0) lim (omega arith) (omega arith) (λ y. omega (arith, y)) refl a.header)
     ∙ no_among l.l3 (those l.l2) d (not_block sh e.number 1 2 d l.l3 (extent_at (extents_of R l.obj) 0) lim (omega arith) (omega arith) (λ y. omega (arith, y)) refl a.l3)
     ∙ ap (λ (os : List (Option ℕ)). is_among (those os) d) a.l2
-    ∙ those_apart sh R l.obj l.kept 0 o i e (l2_at sh (extent_at es 300) ∷ l2_at sh (extent_at es 600) ∷ []) s h.0 at ne
-    (those_apart sh R l.obj l.kept 300 o i e (l2_at sh (extent_at es 600) ∷ []) s h.0 at ne (those_apart sh R l.obj l.kept 600 o i e [] s h.0 at ne refl)) in
+    ∙ those_apart sh R l.obj l.kept 0 o i e (l2_at sh (extent_at es EXTENTS_OF_L2) ∷ l2_at sh (extent_at es (2 * EXTENTS_OF_L2)) ∷ []) s h.0 at ne
+    (those_apart sh R l.obj l.kept EXTENTS_OF_L2 o i e (l2_at sh (extent_at es (2 * EXTENTS_OF_L2)) ∷ []) s h.0 at ne (those_apart sh R l.obj l.kept (2 * EXTENTS_OF_L2) o i e [] s h.0 at ne refl)) in
     let is : OnSecond (Kept k.0) (pages.Second n) = subst (OnSecond (Kept k.0)) (sym k.1 ∙ untouched sh R (Lower l) d none ∙ q) refl in
     same_second sh R (Lower l ∷ R) o i k.0 n (f o i e at g k.0 k.1) is (λ j lt. (bests_stay sh R (Lower l) o h number.least number.most).l1 (i + j) (ap (λ (v : Bool). v && leb l.kept (i + j)) other))
 

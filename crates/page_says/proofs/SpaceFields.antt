@@ -4,7 +4,7 @@ use Rattle.std.proofs.Common.{ℕ, ◌-◌, ◌/◌, ◌%◌, ◌*◌, ◌<◌, 
 use Rattle.std.specs.Int.{w8, bit_not}
 use Rattle.std.proofs.lemmas.Nat.{or_lt, and_le_l}
 use Rattle.std.proofs.lemmas.List.{length-set, length-take}
-use Rattle.seg_words.specs.Types.{AllByRecursion, Class as BlockClass, Unformatted, Full, Fs1, Fs2, Fs3, Fs4, class_code}
+use Rattle.seg_words.specs.Types.{AllByRecursion, Class as BlockClass, Unformatted, Full, Fs1, Fs2, Fs3, Fs4, class_code, EXTENTS_OF_L2, MOST_EXTENT_BLOCKS}
 use Rattle.bitmap_block.specs.Codes.{HasCodes}
 use Rattle.bitmap_block.specs.Pages.{ExtentMap, Summary}
 use Rattle.bitmap_block.proofs.Clearing.{cleared_has_codes}
@@ -73,23 +73,23 @@ class_fits Fs2 = omega arith
 class_fits Fs3 = omega arith
 class_fits Fs4 = omega arith
 
-pub first_has : (r : Record) (m : ExtentMap) → HasSpelling r → FirstFits r m → (m.incarnation < 2 ^ 64) × HasCodes 64 m.codes → ((first_changed r m).incarnation < 2 ^ 64) × HasCodes 64 (first_changed r m).codes
+pub first_has : (r : Record) (m : ExtentMap) → HasSpelling r → FirstFits r m → (m.incarnation < 2 ^ 64) × HasCodes MOST_EXTENT_BLOCKS m.codes → ((first_changed r m).incarnation < 2 ^ 64) × HasCodes MOST_EXTENT_BLOCKS (first_changed r m).codes
 first_has (Extend e) m s f h = h
-first_has (FormatBlock b) m s f h = (h.0, code_put 64 m.codes (b.dba - m.dba) 5 (omega arith) h.1)
-first_has (Class k) m s f h = (h.0, code_put 64 m.codes (k.dba - m.dba) (class_code k.class) (class_fits k.class) h.1)
+first_has (FormatBlock b) m s f h = (h.0, code_put MOST_EXTENT_BLOCKS m.codes (b.dba - m.dba) 5 (omega arith) h.1)
+first_has (Class k) m s f h = (h.0, code_put MOST_EXTENT_BLOCKS m.codes (k.dba - m.dba) (class_code k.class) (class_fits k.class) h.1)
 first_has _ m s f h = absurd f
 
-pub second_has : (r : Record) (m : Summary) → HasSpelling r → SecondFits r → HasCodes 300 m.codes → HasCodes 300 (second_changed r m).codes
-second_has (Extend e) m s f h = code_put 300 m.codes (e.index % 300) 0 (omega arith) h
-second_has (FormatBlock b) m s f h = code_put 300 m.codes (b.index % 300) b.best_of_l1 f h
-second_has (Class k) m s f h = code_put 300 m.codes (k.index % 300) k.best_of_l1 f h
-second_has (Lower l) m s f h = cleared_has_codes m.codes _ 300 (min (l.kept - covered_from l.l2 m.dba) 300) h (omega arith) refl
+pub second_has : (r : Record) (m : Summary) → HasSpelling r → SecondFits r → HasCodes EXTENTS_OF_L2 m.codes → HasCodes EXTENTS_OF_L2 (second_changed r m).codes
+second_has (Extend e) m s f h = code_put EXTENTS_OF_L2 m.codes (e.index % EXTENTS_OF_L2) 0 (omega arith) h
+second_has (FormatBlock b) m s f h = code_put EXTENTS_OF_L2 m.codes (b.index % EXTENTS_OF_L2) b.best_of_l1 f h
+second_has (Class k) m s f h = code_put EXTENTS_OF_L2 m.codes (k.index % EXTENTS_OF_L2) k.best_of_l1 f h
+second_has (Lower l) m s f h = cleared_has_codes m.codes _ EXTENTS_OF_L2 (min (l.kept - covered_from l.l2 m.dba) EXTENTS_OF_L2) h (omega arith) refl
 second_has _ m s f h = absurd f
 
 pub third_has : (r : Record) (m : Summary) → HasSpelling r → ThirdFits r → HasCodes 3 m.codes → HasCodes 3 (third_changed r m).codes
 third_has (Extend e) m s f h = h
-third_has (FormatBlock b) m s f h = code_put 3 m.codes (b.index / 300) b.best_of_l2 f.1 h
-third_has (Class k) m s f h = code_put 3 m.codes (k.index / 300) k.best_of_l2 f.1 h
+third_has (FormatBlock b) m s f h = code_put 3 m.codes (b.index / EXTENTS_OF_L2) b.best_of_l2 f.1 h
+third_has (Class k) m s f h = code_put 3 m.codes (k.index / EXTENTS_OF_L2) k.best_of_l2 f.1 h
 third_has (Lower l) m s f h = code_put 3 _ 2 (slice_index l.bests 2) f.2 (code_put 3 _ 1 (slice_index l.bests 1) f.1 (code_put 3 m.codes 0 (slice_index l.bests 0) f.0 h))
 third_has _ m s f h = absurd f
 

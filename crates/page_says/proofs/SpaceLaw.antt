@@ -3,6 +3,7 @@ use Rattle.std.proofs.Common.{◌≡◌, ℕ, zero, suc, ◌+◌, ◌-◌, ◌*�
 use Rattle.std.specs.Prelude.{◌==◌}
 use Rattle.std.proofs.lemmas.Bool.{cases_Bool, eqb-true, eqb-false, eq-eqb, cond-true, or_right, and_parts}
 use Rattle.std.proofs.Math.Nat.{zero-div}
+use Rattle.seg_words.specs.Types.{MOST_TABLES}
 use Rattle.seg_base.specs.declared.shape.Shape.{Shape}
 use Rattle.seg_base.specs.Places.{is_shape, is_extent}
 use Rattle.segment_blocks.specs.Spaces.{Space as SpacePage, is_used, with_extent}
@@ -54,7 +55,7 @@ kept R S (pages.Zero x) c e h = record { lowerings = c ∙ h.lowerings; extents 
 kept R S (pages.Checkpoint x) c e h = absurd h
 kept R S (pages.Txns x) c e h = absurd h
 kept R S (pages.Catalogue x) c e h = absurd h
-kept R S (pages.Space x) c e h = record { count = h.count; lowerings = h.lowerings ∙ sym c; used = λ y lt. h.used y lt ∙ sym (taken_same R S 32 y e) }
+kept R S (pages.Space x) c e h = record { count = h.count; lowerings = h.lowerings ∙ sym c; used = λ y lt. h.used y lt ∙ sym (taken_same R S MOST_TABLES y e) }
 kept R S (pages.Undo x) c e h = absurd h
 kept R S (pages.First x) c e h = absurd h
 kept R S (pages.Second x) c e h = absurd h
@@ -63,20 +64,20 @@ kept R S (pages.Header x) c e h = absurd h
 kept R S (pages.Rows x) c e h = absurd h
 
 -- an extent that a table gets
-extended : (R : List Record) (e : ExtendRecord) (lsn : ℕ) (s : SpacePage) → 1 ≤ e.obj → e.obj ≤ 32 → e.extent < 2043 → SpaceSays R s → SpaceSays (Extend e ∷ R) (record s { bits = with_extent s.bits e.extent true; lsn = lsn })
+extended : (R : List Record) (e : ExtendRecord) (lsn : ℕ) (s : SpacePage) → 1 ≤ e.obj → e.obj ≤ MOST_TABLES → e.extent < 2043 → SpaceSays R s → SpaceSays (Extend e ∷ R) (record s { bits = with_extent s.bits e.extent true; lsn = lsn })
 extended R e lsn s one most lt h = record {
   count = extent_count s.bits e.extent true ∙ h.count;
   lowerings = h.lowerings;
   used = λ x few. elim (cases_Bool (eqb e.extent x)) [
     | inl y ↦
         let same : e.extent ≡ x = eqb-true e.extent x y in
-        ap (is_used (with_extent s.bits e.extent true)) (sym same) ∙ used_same s.bits e.extent true h.count lt ∙ sym (taken_extend R e 32 x one most ∙ or_right (is_taken R 32 x) (eqb e.extent x) y)
-    | inr n ↦ used_other s.bits e.extent x true h.count lt (λ k. eqb-false e.extent x n (sym k)) ∙ h.used x few ∙ sym (taken_extend R e 32 x one most ∙ ap (λ (b : Bool). is_taken R 32 x || b) n ∙ or_none (is_taken R 32 x))
+        ap (is_used (with_extent s.bits e.extent true)) (sym same) ∙ used_same s.bits e.extent true h.count lt ∙ sym (taken_extend R e MOST_TABLES x one most ∙ or_right (is_taken R MOST_TABLES x) (eqb e.extent x) y)
+    | inr n ↦ used_other s.bits e.extent x true h.count lt (λ k. eqb-false e.extent x n (sym k)) ∙ h.used x few ∙ sym (taken_extend R e MOST_TABLES x one most ∙ ap (λ (b : Bool). is_taken R MOST_TABLES x || b) n ∙ or_none (is_taken R MOST_TABLES x))
   ];
 }
 
-extent_says : (R : List Record) (e : ExtendRecord) (lsn : ℕ) (p : Page) → 1 ≤ e.obj → e.obj ≤ 32 → e.extent < 2043 → SaysSpace R p → SaysSpace (Extend e ∷ R) (page_after (Extend e) lsn (or_kept (as_space p) p))
-extent_says R e lsn (pages.Zero x) one most lt h = extended R e lsn (record { dba = x; lsn = 0; lowerings = 0; bits = replicate 256 0 }) one most lt (record { count = refl; lowerings = sym h.lowerings; used = λ y few. unused y ∙ sym (none_taken R 32 y h) })
+extent_says : (R : List Record) (e : ExtendRecord) (lsn : ℕ) (p : Page) → 1 ≤ e.obj → e.obj ≤ MOST_TABLES → e.extent < 2043 → SaysSpace R p → SaysSpace (Extend e ∷ R) (page_after (Extend e) lsn (or_kept (as_space p) p))
+extent_says R e lsn (pages.Zero x) one most lt h = extended R e lsn (record { dba = x; lsn = 0; lowerings = 0; bits = replicate 256 0 }) one most lt (record { count = refl; lowerings = sym h.lowerings; used = λ y few. unused y ∙ sym (none_taken R MOST_TABLES y h) })
 extent_says R e lsn (pages.Checkpoint x) one most lt h = absurd h
 extent_says R e lsn (pages.Txns x) one most lt h = absurd h
 extent_says R e lsn (pages.Catalogue x) one most lt h = absurd h

@@ -2,7 +2,7 @@
 -- blocks and the parts of undo.
 use Rattle.std.proofs.Common.{◌≡◌, ℕ, zero, suc, ◌%◌, ◌<◌, ◌≤◌, ◌^◌, Bool, true, false, cond, eqb, List, [], ◌∷◌, length, replicate, Option, Some, None, refl, sym, ap, ◌∙◌, subst, inl, inr, arith}
 use Rattle.std.proofs.lemmas.Bool.{cases_Bool, cond-true, cond-false}
-use Rattle.seg_words.specs.Types.{AllByRecursion, Shape, is_shape}
+use Rattle.seg_words.specs.Types.{AllByRecursion, Shape, is_shape, TXN_ENTRIES, EXTENTS_OF_L2, MOST_TABLES, MOST_EXTENT_BLOCKS}
 use Rattle.bitmap_block.proofs.Reading.{no_codes}
 use Rattle.segment_blocks.specs.Types.{no_table, IsCatalogueEntry}
 use Rattle.segment_blocks.proofs.Searching.{no_bits}
@@ -34,7 +34,7 @@ use Rattle.page_says.proofs.RowFields.{rows_spelled, undo_spelled}
 -- ---- pages that a record makes anew
 
 begun_has : (p : Page) → Fields p → Fields (or_kept (as_txns p) p)
-begun_has (pages.Zero x) h = record { control_fits = omega arith; txn_fits = omega arith; row_fits = omega arith; undo_fits = tt; count = refl; each = unused 96 }
+begun_has (pages.Zero x) h = record { control_fits = omega arith; txn_fits = omega arith; row_fits = omega arith; undo_fits = tt; count = refl; each = unused TXN_ENTRIES }
   where
     unused : (n : ℕ) → AllByRecursion IsEntry (replicate n Unused)
     unused zero = tt
@@ -51,7 +51,7 @@ begun_has (pages.Header x) h = h
 begun_has (pages.Rows x) h = h
 
 named_has : (p : Page) → Fields p → Fields (or_kept (as_catalogue p) p)
-named_has (pages.Zero x) h = record { count = refl; each = none 32 }
+named_has (pages.Zero x) h = record { count = refl; each = none MOST_TABLES }
   where
     none : (n : ℕ) → AllByRecursion IsCatalogueEntry (replicate n no_table)
     none zero = tt
@@ -104,12 +104,12 @@ maps_has false bi false ci q p2 p3 p1 h h2 h3 h1 = h1
 extend_has : (e : ExtendRecord) (lsn : ℕ) (p : Page) → lsn < 2 ^ 64 → Fields p → Fields (start (Extend e) lsn p)
 extend_has e lsn p l h =
     let d : ℕ = dba_of p in
-    let rest : Option Page = cond (eqb d e.l2) (cond (eqb (e.index % 300) 0) (Some (new_second d)) None) (cond (eqb d e.l3) (cond (eqb e.index 0) (Some (new_third d)) None) (Some (new_first d lsn))) in
+    let rest : Option Page = cond (eqb d e.l2) (cond (eqb (e.index % EXTENTS_OF_L2) 0) (Some (new_second d)) None) (cond (eqb d e.l3) (cond (eqb e.index 0) (Some (new_third d)) None) (Some (new_first d lsn))) in
     elim (eqb d 3) as (λ b. Fields (or_kept (cond b (as_space p) (cond (eqb d e.header) None rest)) p)) [
       | true ↦ mapped_has p h
       | false ↦ elim (eqb d e.header) as (λ b. Fields (or_kept (cond b None rest) p)) [
         | true ↦ h
-        | false ↦ maps_has (eqb d e.l2) (eqb (e.index % 300) 0) (eqb d e.l3) (eqb e.index 0) p (new_second d) (new_third d) (new_first d lsn) h (no_codes 300) (no_codes 3) (l, no_codes 64)
+        | false ↦ maps_has (eqb d e.l2) (eqb (e.index % EXTENTS_OF_L2) 0) (eqb d e.l3) (eqb e.index 0) p (new_second d) (new_third d) (new_first d lsn) h (no_codes EXTENTS_OF_L2) (no_codes 3) (l, no_codes MOST_EXTENT_BLOCKS)
       ]
     ]
 

@@ -2,6 +2,7 @@
 use Rattle.std.proofs.Common.{◌≡◌, ℕ, zero, suc, ◌+◌, ◌*◌, ◌/◌, ◌%◌, ◌<◌, Bool, true, false, cond, ◌&&◌, eqb, List, [], ◌∷◌, length, take, replicate, slice_index, slice_set, Option, Some, None, refl, sym, ◌∙◌, ap, subst, arith, inl, inr, true≢false}
 use Rattle.std.proofs.lemmas.Bool.{cases_Bool, eqb-true, eqb-false, eq-eqb, ne_eqb, cond-true, cond-false, or_left, or_right, and_parts}
 use Rattle.std.proofs.lemmas.List.{get_or-set_same, get_or-set_other, length-set}
+use Rattle.seg_words.specs.Types.{MOST_EXTENTS, EXTENTS_OF_L2}
 use Rattle.seg_base.specs.declared.shape.Shape.{Shape}
 use Rattle.seg_base.specs.Places.{first_block, is_shape}
 use Rattle.bitmap_block.specs.Pages.{Summary}
@@ -56,7 +57,7 @@ third_head sh R o e h at = record { table = has_table sh R o 0 e h at; extent = 
 
 -- ---- a record that leaves the codes
 
-same_third : (sh : Shape) (R S : List Record) (o : ℕ) (m n : Summary) → ThirdSays sh R o m → n.codes ≡ m.codes → ((j : ℕ) → best_in_l2 sh S o (300 * j) ≡ best_in_l2 sh R o (300 * j)) → ThirdSays sh S o n
+same_third : (sh : Shape) (R S : List Record) (o : ℕ) (m n : Summary) → ThirdSays sh R o m → n.codes ≡ m.codes → ((j : ℕ) → best_in_l2 sh S o (EXTENTS_OF_L2 * j) ≡ best_in_l2 sh R o (EXTENTS_OF_L2 * j)) → ThirdSays sh S o n
 same_third sh R S o m n x k same = record {
   count = ap (λ (cs : List ℕ). length cs) k ∙ x.count;
   code = λ j lt. ap (λ (cs : List ℕ). slice_index cs j) k ∙ x.code j lt ∙ sym (same j);
@@ -74,14 +75,14 @@ quiet sh R r o e s h f at keep none n q =
     let number = has_number sh R o 0 e h.0 at in
     let dba : k.0.dba ≡ d = subst (Says R d) k.1 (says sh R d) in
     let kept : OnThird (Kept k.0) (pages.Third n) = subst (OnThird (Kept k.0)) q (either_page (OnThird (Kept k.0)) sh R r d (pages.Third k.0) k.1 (keep k.0 dba) refl) in
-    same_third sh R (r ∷ R) o k.0 n (f o e at k.0 k.1) kept (λ j. (bests_stay sh R r o h number.least number.most).l2 (300 * j) (none (300 * j)))
+    same_third sh R (r ∷ R) o k.0 n (f o e at k.0 k.1) kept (λ j. (bests_stay sh R r o h number.least number.most).l2 (EXTENTS_OF_L2 * j) (none (EXTENTS_OF_L2 * j)))
 
 -- ---- a record that names a group
 
 abbrev Coded : ℕ → ℕ → Summary → Summary → Type 0
 Coded v c m n = n.codes ≡ slice_set m.codes v c
 
-coded_third : (sh : Shape) (R S : List Record) (o start v c : ℕ) (m n : Summary) → ThirdSays sh R o m → Coded v c m n → v < 3 → start ≡ 300 * v
+coded_third : (sh : Shape) (R S : List Record) (o start v c : ℕ) (m n : Summary) → ThirdSays sh R o m → Coded v c m n → v < 3 → start ≡ EXTENTS_OF_L2 * v
     → best_in_l2 sh S o start ≡ c → ((j : ℕ) → (start ≡ j → ⊥) → best_in_l2 sh S o j ≡ best_in_l2 sh R o j) → ThirdSays sh S o n
 coded_third sh R S o start v c m n x k small at code others = record {
   count = ap (λ (cs : List ℕ). length cs) k ∙ length-set m.codes v c ∙ x.count;
@@ -92,20 +93,20 @@ coded_third sh R S o start v c m n x k small at code others = record {
         ap (λ (l : ℕ). slice_index (slice_set m.codes v c) l) same
         ∙ get_or-set_same m.codes v c 0 (omega (arith, count, small))
         ∙ sym code
-        ∙ ap (best_in_l2 sh S o) (at ∙ ap (λ (l : ℕ). 300 * l) (sym same))
+        ∙ ap (best_in_l2 sh S o) (at ∙ ap (λ (l : ℕ). EXTENTS_OF_L2 * l) (sym same))
     | inr f ↦
         let other : j ≡ v → ⊥ = eqb-false j v f in
         get_or-set_other m.codes v j c 0 other
         ∙ x.code j lt
-        ∙ sym (others (300 * j) (λ z. other (omega (arith, z, at))))
+        ∙ sym (others (EXTENTS_OF_L2 * j) (λ z. other (omega (arith, z, at))))
   ];
 }
 
 -- the record touches the third level of its table, and no other one
-group_step : (sh : Shape) (R : List Record) (r : Record) (obj index c o : ℕ) (e : Extent) → is_shape sh ≡ true → AreAllowed sh (r ∷ R) → ThirdsSay sh R → extent_at (extents_of R o) 0 ≡ Some e → index < 900
+group_step : (sh : Shape) (R : List Record) (r : Record) (obj index c o : ℕ) (e : Extent) → is_shape sh ≡ true → AreAllowed sh (r ∷ R) → ThirdsSay sh R → extent_at (extents_of R o) 0 ≡ Some e → index < MOST_EXTENTS
     → (obj ≡ o → is_among (touched sh r) (first_block sh e.number + 2) ≡ true)
     → ((obj ≡ o → ⊥) → is_among (touched sh r) (first_block sh e.number + 2) ≡ false)
-    → ((m : Summary) → m.dba ≡ first_block sh e.number + 2 → OnThird (Coded (index / 300) c m) (changed_page r (suc (length R)) (pages.Third m)))
+    → ((m : Summary) → m.dba ≡ first_block sh e.number + 2 → OnThird (Coded (index / EXTENTS_OF_L2) c m) (changed_page r (suc (length R)) (pages.Third m)))
     → best_in_l2 sh (r ∷ R) obj (group_start index) ≡ c → ((j : ℕ) → (eqb obj o && eqb (group_start index) j) ≡ false → names_l2 r o j ≡ false)
     → (n : Summary) → page_of sh (r ∷ R) (first_block sh e.number + 2) ≡ pages.Third n → ThirdSays sh (r ∷ R) o n
 group_step sh R r obj index c o e s h f at few own other changed best names n q =
@@ -118,13 +119,13 @@ group_step sh R r obj index c o e s h f at few own other changed best names n q 
       | inl y ↦
           let table : obj ≡ o = eqb-true obj o y in
           let page = touched_page sh R r d (pages.Third k.0) (own table) k.1 in
-          let is : OnThird (Coded (index / 300) c k.0) (pages.Third n) = subst (OnThird (Coded (index / 300) c k.0)) (sym page ∙ q) (changed k.0 dba) in
-          coded_third sh R (r ∷ R) o (group_start index) (index / 300) c k.0 n (f o e at k.0 k.1) is (omega (arith, few)) (group_number index few)
+          let is : OnThird (Coded (index / EXTENTS_OF_L2) c k.0) (pages.Third n) = subst (OnThird (Coded (index / EXTENTS_OF_L2) c k.0)) (sym page ∙ q) (changed k.0 dba) in
+          coded_third sh R (r ∷ R) o (group_start index) (index / EXTENTS_OF_L2) c k.0 n (f o e at k.0 k.1) is (omega (arith, few)) (group_number index few)
           (subst (λ (x : ℕ). best_in_l2 sh (r ∷ R) x (group_start index) ≡ c) table best)
           (λ j ne. stay j (names j (off _ (λ z. ne (eqb-true (group_start index) j (and_parts (eqb obj o) (eqb (group_start index) j) z).1)))))
       | inr z ↦
           let is : OnThird (Kept k.0) (pages.Third n) = subst (OnThird (Kept k.0)) (sym k.1 ∙ untouched sh R r d (other (eqb-false obj o z)) ∙ q) refl in
-          same_third sh R (r ∷ R) o k.0 n (f o e at k.0 k.1) is (λ j. stay (300 * j) (names (300 * j) (ap (λ (v : Bool). v && eqb (group_start index) (300 * j)) z)))
+          same_third sh R (r ∷ R) o k.0 n (f o e at k.0 k.1) is (λ j. stay (EXTENTS_OF_L2 * j) (names (EXTENTS_OF_L2 * j) (ap (λ (v : Bool). v && eqb (group_start index) (EXTENTS_OF_L2 * j)) z)))
     ]
 
 -- where the third level of a table stands
@@ -164,7 +165,7 @@ format_step sh R x o e s h f at n q =
     group_step sh R (FormatBlock x) x.obj x.index x.best_of_l2 o e s h f at ((records_meet_sorts sh R (FormatBlock x) s h).format x refl).few
     (λ y. or_right (eqb x.dba d) _ (or_right (eqb x.l2 d) _ (or_left (eqb x.l3 d) _ (eq-eqb x.l3 d (l3_is sh R x.obj x.l3 o e a.bitmaps.l3_is y at)))))
     (λ y. no_among x.dba (x.l2 ∷ x.l3 ∷ first_of sh x.dba ∷ []) d out ∙ maps_apart sh R x.obj x.dba x.l2 x.l3 x.index o e s h.0 a.bitmaps here at y)
-    (λ m is. subst (λ (v : Bool). OnThird (Coded (x.index / 300) x.best_of_l2 m) (page_after (FormatBlock x) lsn (or_kept (cond v (Some (new_rows m.dba)) None) (pages.Third m)))) (sym (ne_eqb x.dba m.dba (λ w. out (sym is ∙ sym w)))) refl)
+    (λ m is. subst (λ (v : Bool). OnThird (Coded (x.index / EXTENTS_OF_L2) x.best_of_l2 m) (page_after (FormatBlock x) lsn (or_kept (cond v (Some (new_rows m.dba)) None) (pages.Third m)))) (sym (ne_eqb x.dba m.dba (λ w. out (sym is ∙ sym w)))) refl)
     ((bests_are_stated sh R).format_l2 x h) (λ j y. y) n q
 
 class_step : (sh : Shape) (R : List Record) (x : ClassRecord) (o : ℕ) (e : Extent) → is_shape sh ≡ true → AreAllowed sh (Class x ∷ R) → ThirdsSay sh R → extent_at (extents_of R o) 0 ≡ Some e
@@ -197,7 +198,7 @@ old_step sh R x o e s h f at now n q =
     let S : List Record = Extend x ∷ R in
     let a = h.1.kind in
     quiet sh R (Extend x) o e s h f at
-    (λ m is. extend_keeps (Kept m) (Extend x) (suc (length R)) m (eqb m.dba 3) (eqb m.dba x.header) (eqb m.dba x.l2) (eqb (x.index % 300) 0) (eqb m.dba x.l3) (eqb x.index 0) m.dba m.dba m.dba
+    (λ m is. extend_keeps (Kept m) (Extend x) (suc (length R)) m (eqb m.dba 3) (eqb m.dba x.header) (eqb m.dba x.l2) (eqb (x.index % EXTENTS_OF_L2) 0) (eqb m.dba x.l3) (eqb x.index 0) m.dba m.dba m.dba
     (off _ (λ y.
     let p = and_parts (eqb m.dba x.l3) (eqb x.index 0) y in
     let other : x.obj ≡ o → ⊥ = λ t.
@@ -240,7 +241,7 @@ new_step sh R x o s h table last now n q =
     let is : OnThird Made (pages.Third n) = subst (OnThird Made) (sym changed ∙ sym (touched_page sh R (Extend x) d p among refl) ∙ q) refl in
     record {
       count = ap (λ (cs : List ℕ). length cs) is;
-      code = λ j lt. ap (λ (cs : List ℕ). slice_index cs j) is ∙ zero_at 3 j ∙ sym (stay (300 * j) refl ∙ none (extents_of R o) (300 * j) last);
+      code = λ j lt. ap (λ (cs : List ℕ). slice_index cs j) is ∙ zero_at 3 j ∙ sym (stay (EXTENTS_OF_L2 * j) refl ∙ none (extents_of R o) (EXTENTS_OF_L2 * j) last);
     }
   where
     none : (es : List Extent) (k : ℕ) → 0 ≡ length es → best_in_group sh R k 0 es ≡ 0
@@ -266,7 +267,7 @@ three_set (x ∷ y ∷ []) a b c e = absurd (omega (arith, e))
 three_set (x ∷ y ∷ z ∷ []) a b c e = refl
 three_set (x ∷ y ∷ z ∷ w ∷ cs) a b c e = absurd (omega (arith, e))
 
-three_at : (f : ℕ → ℕ) (j : ℕ) → j < 3 → slice_index (f 0 ∷ f 300 ∷ f 600 ∷ []) j ≡ f (300 * j)
+three_at : (f : ℕ → ℕ) (j : ℕ) → j < 3 → slice_index (f 0 ∷ f EXTENTS_OF_L2 ∷ f (2 * EXTENTS_OF_L2) ∷ []) j ≡ f (EXTENTS_OF_L2 * j)
 three_at f zero lt = refl
 three_at f (suc zero) lt = refl
 three_at f (suc (suc zero)) lt = refl
@@ -283,9 +284,9 @@ own_lower sh R l o e s h f table at n q =
     let l3 : l.l3 ≡ d = l3_is sh R l.obj l.l3 o e h.1.kind.l3 table at in
     let among : is_among (touched sh (Lower l)) d ≡ true = or_right (eqb 3 d) _ (or_right (eqb l.header d) _ (or_left (eqb l.l3 d) _ (eq-eqb l.l3 d l3))) in
     let is : OnThird (Stated l.bests k.0) (pages.Third n) = subst (OnThird (Stated l.bests k.0)) (sym (touched_page sh R (Lower l) d (pages.Third k.0) among k.1) ∙ q) refl in
-    let bests : l.bests ≡ best_in_l2 sh S o 0 ∷ best_in_l2 sh S o 300 ∷ best_in_l2 sh S o 600 ∷ [] =
-    subst (λ (p : ℕ). l.bests ≡ best_in_l2 sh S p 0 ∷ best_in_l2 sh S p 300 ∷ best_in_l2 sh S p 600 ∷ []) table ((bests_are_stated sh R).lower_l2 l h) in
-    let codes : n.codes ≡ best_in_l2 sh S o 0 ∷ best_in_l2 sh S o 300 ∷ best_in_l2 sh S o 600 ∷ [] =
+    let bests : l.bests ≡ best_in_l2 sh S o 0 ∷ best_in_l2 sh S o EXTENTS_OF_L2 ∷ best_in_l2 sh S o (2 * EXTENTS_OF_L2) ∷ [] =
+    subst (λ (p : ℕ). l.bests ≡ best_in_l2 sh S p 0 ∷ best_in_l2 sh S p EXTENTS_OF_L2 ∷ best_in_l2 sh S p (2 * EXTENTS_OF_L2) ∷ []) table ((bests_are_stated sh R).lower_l2 l h) in
+    let codes : n.codes ≡ best_in_l2 sh S o 0 ∷ best_in_l2 sh S o EXTENTS_OF_L2 ∷ best_in_l2 sh S o (2 * EXTENTS_OF_L2) ∷ [] =
     is ∙ three_set k.0.codes (slice_index l.bests 0) (slice_index l.bests 1) (slice_index l.bests 2) x.count ∙ ap (λ (bs : List ℕ). slice_index bs 0 ∷ slice_index bs 1 ∷ slice_index bs 2 ∷ []) bests in
     record {
       count = ap (λ (cs : List ℕ). length cs) codes;
@@ -312,10 +313,10 @@ other_lower sh R l o e s h f other at n q =
     ∙ no_among l.header (l.l3 ∷ those l.l2) d (not_block sh e.number 2 3 d l.header (extent_at (extents_of R l.obj) 0) lim (omega arith) (omega arith) (λ y. omega (arith, y)) refl a.header)
     ∙ no_among l.l3 (those l.l2) d (l3_not sh R l.obj l.l3 o d e s h.0 a.l3 (eqb-false l.obj o other) at refl)
     ∙ ap (λ (os : List (Option ℕ)). is_among (those os) d) a.l2
-    ∙ those_apart sh (extent_at es 0) e (l2_at sh (extent_at es 300) ∷ l2_at sh (extent_at es 600) ∷ []) s
-    (those_apart sh (extent_at es 300) e (l2_at sh (extent_at es 600) ∷ []) s (those_apart sh (extent_at es 600) e [] s refl)) in
+    ∙ those_apart sh (extent_at es 0) e (l2_at sh (extent_at es EXTENTS_OF_L2) ∷ l2_at sh (extent_at es (2 * EXTENTS_OF_L2)) ∷ []) s
+    (those_apart sh (extent_at es EXTENTS_OF_L2) e (l2_at sh (extent_at es (2 * EXTENTS_OF_L2)) ∷ []) s (those_apart sh (extent_at es (2 * EXTENTS_OF_L2)) e [] s refl)) in
     let is : OnThird (Kept k.0) (pages.Third n) = subst (OnThird (Kept k.0)) (sym k.1 ∙ untouched sh R (Lower l) d none ∙ q) refl in
-    same_third sh R (Lower l ∷ R) o k.0 n (f o e at k.0 k.1) is (λ j. (bests_stay sh R (Lower l) o h number.least number.most).l2 (300 * j) other)
+    same_third sh R (Lower l ∷ R) o k.0 n (f o e at k.0 k.1) is (λ j. (bests_stay sh R (Lower l) o h number.least number.most).l2 (EXTENTS_OF_L2 * j) other)
 
 lower_step : (sh : Shape) (R : List Record) (l : LowerRecord) (o : ℕ) (e : Extent) → is_shape sh ≡ true → AreAllowed sh (Lower l ∷ R) → ThirdsSay sh R → extent_at (extents_of (Lower l ∷ R) o) 0 ≡ Some e
     → (n : Summary) → page_of sh (Lower l ∷ R) (first_block sh e.number + 2) ≡ pages.Third n → ThirdSays sh (Lower l ∷ R) o n

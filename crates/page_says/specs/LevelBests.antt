@@ -1,6 +1,7 @@
 -- The bests that the model names, read from the codes of a page: as they are, and as they will be with one more Class or Lower,
 -- which must state them.
 use Rattle.std.specs.Prelude.{◌≡◌, ℕ, ◌-◌, ◌%◌, min, true, List, ◌∷◌, slice_set, Some, None}
+use Rattle.seg_words.specs.Types.{EXTENTS_OF_L2}
 use Rattle.seg_base.specs.Classes.{class_code}
 use Rattle.seg_base.specs.declared.shape.Shape.{Shape}
 use Rattle.seg_base.specs.Places.{first_block, is_shape}
@@ -27,7 +28,7 @@ BestsAreRead = (sh : Shape) (R : List Record) → is_shape sh ≡ true → AreAl
 -- the bests with the block's class changed
 pub record ClassBests (sh : Shape) (R : List Record) (o index : ℕ) (e : Extent) (k : ClassRecord) (first : ExtentMap) (second : Summary) : Type 0 where
   pub l1 : best_in_l1 sh (Class k ∷ R) o index ≡ best_of (slice_set first.codes (k.dba - first_block sh e.number) (class_code k.class))
-  pub l2 : best_in_l2 sh (Class k ∷ R) o (group_start index) ≡ best_of (slice_set second.codes (index % 300) (best_in_l1 sh (Class k ∷ R) o index))
+  pub l2 : best_in_l2 sh (Class k ∷ R) o (group_start index) ≡ best_of (slice_set second.codes (index % EXTENTS_OF_L2) (best_in_l1 sh (Class k ∷ R) o index))
 
 -- of a formatted data block of the extent at this index of table o, whatever the record states
 abbrev pub ClassBestsAreRead : Type 0
@@ -37,7 +38,7 @@ ClassBestsAreRead = (sh : Shape) (R : List Record) (o index : ℕ) (e : Extent) 
 
 -- the best of a group with the extents past the kept ones taken away: 0 where the table has no such group
 pub record LowerBests (sh : Shape) (R : List Record) (l : LowerRecord) (start : ℕ) : Type 0 where
-  pub there : (m : Summary) → SecondSays sh R l.obj start m → best_in_l2 sh (Lower l ∷ R) l.obj start ≡ best_of (cleared_from 300 (min (l.kept - start) 300) m.codes)
+  pub there : (m : Summary) → SecondSays sh R l.obj start m → best_in_l2 sh (Lower l ∷ R) l.obj start ≡ best_of (cleared_from EXTENTS_OF_L2 (min (l.kept - start) EXTENTS_OF_L2) m.codes)
   pub none : extent_at (extents_of R l.obj) start ≡ None → best_in_l2 sh (Lower l ∷ R) l.obj start ≡ 0
 
 abbrev pub LowerBestsAreRead : Type 0

@@ -1,6 +1,7 @@
 -- What the pages of the three levels of bitmaps say, by the model's words, of each extent that a table has: from the record
 -- on by which it got it.
 use Rattle.std.specs.Prelude.{◌≡◌, ℕ, ◌+◌, ◌*◌, ◌<◌, true, cond, List, length, slice_index, Some}
+use Rattle.seg_words.specs.Types.{EXTENTS_OF_L2, MOST_EXTENT_BLOCKS}
 use Rattle.seg_base.specs.declared.shape.Shape.{Shape}
 use Rattle.seg_base.specs.Places.{first_block, is_shape}
 use Rattle.bitmap_block.specs.Pages.{ExtentMap, Summary}
@@ -21,18 +22,18 @@ told_code sh R index x b = cond (is_in b (extent_data sh index x)) (code_of sh R
 -- the LSN by which the table got the extent, and 64 codes, of the blocks from the extent's first one on
 pub record FirstSays (sh : Shape) (R : List Record) (index : ℕ) (e : Extent) (m : ExtentMap) : Type 0 where
   pub incarnation : m.incarnation ≡ e.incarnation
-  pub count : length m.codes ≡ 64
-  pub code : (j : ℕ) → j < 64 → slice_index m.codes j ≡ told_code sh R index e.number (first_block sh e.number + j)
+  pub count : length m.codes ≡ MOST_EXTENT_BLOCKS
+  pub code : (j : ℕ) → j < MOST_EXTENT_BLOCKS → slice_index m.codes j ≡ told_code sh R index e.number (first_block sh e.number + j)
 
 -- the bests of the first levels of 300 extents of table o, of which the first has this index: 0 past the last extent
 pub record SecondSays (sh : Shape) (R : List Record) (o start : ℕ) (m : Summary) : Type 0 where
-  pub count : length m.codes ≡ 300
-  pub code : (j : ℕ) → j < 300 → slice_index m.codes j ≡ best_in_l1 sh R o (start + j)
+  pub count : length m.codes ≡ EXTENTS_OF_L2
+  pub code : (j : ℕ) → j < EXTENTS_OF_L2 → slice_index m.codes j ≡ best_in_l1 sh R o (start + j)
 
 -- the bests of the three second levels that a table may have: 0 of one that isn't there
 pub record ThirdSays (sh : Shape) (R : List Record) (o : ℕ) (m : Summary) : Type 0 where
   pub count : length m.codes ≡ 3
-  pub code : (j : ℕ) → j < 3 → slice_index m.codes j ≡ best_in_l2 sh R o (300 * j)
+  pub code : (j : ℕ) → j < 3 → slice_index m.codes j ≡ best_in_l2 sh R o (EXTENTS_OF_L2 * j)
 
 abbrev pub SaysFirst : Shape → List Record → ℕ → Extent → Page → Type 0
 SaysFirst sh R index e (First m) = FirstSays sh R index e m

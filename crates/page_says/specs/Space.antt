@@ -1,5 +1,6 @@
 -- What the page of the space bitmap says: which extents are taken, and how often marks were lowered.
 use Rattle.std.specs.Prelude.{◌≡◌, ℕ, ◌<◌, true, List, [], length}
+use Rattle.seg_words.specs.Types.{MOST_TABLES}
 use Rattle.seg_base.specs.declared.shape.Shape.{Shape}
 use Rattle.seg_base.specs.Places.{is_shape}
 use Rattle.segment_blocks.specs.Spaces.{Space as SpacePage, is_used}
@@ -15,7 +16,7 @@ use Rattle.page_set.specs.Folded.{page_of}
 pub record SpaceSays (R : List Record) (s : SpacePage) : Type 0 where
   pub count : length s.bits ≡ 256
   pub lowerings : s.lowerings ≡ lowering_count R
-  pub used : (x : ℕ) → x < 2043 → is_used s.bits x ≡ is_taken R 32 x
+  pub used : (x : ℕ) → x < 2043 → is_used s.bits x ≡ is_taken R MOST_TABLES x
 
 -- no table has an extent, and no marks were lowered
 pub record NothingTaken (R : List Record) : Type 0 where

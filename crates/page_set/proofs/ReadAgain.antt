@@ -2,6 +2,7 @@
 use Rattle.std.proofs.Common.{◌≡◌, ℕ, List, [], ◌∷◌, length, refl, sym, ap, ◌∙◌, inl, inr, Result, Ok, Err, arith}
 use Rattle.std.proofs.lemmas.Bool.{eq-eqb}
 use Rattle.std.specs.Prelude.{slice_index}
+use Rattle.seg_words.specs.Types.{BLOCK_SIZE, EXTENTS_OF_L2}
 use Rattle.page_bytes.specs.declared.fault.PageFault.{PageFault}
 use Rattle.page_bytes.specs.declared.fault.PageFault.TheVariants.{BadPage, NoMemory}
 use Rattle.page_bytes.specs.Pages.{first_wrong, IsReadAs}
@@ -62,7 +63,7 @@ read_again (Catalogue c) fits = ap Catalogue (tables_again c fits)
 read_again (Space s) fits = ap Space (space_again s fits)
 read_again (Undo u) fits = ap Undo (undo_again u fits)
 read_again (First m) fits = ap First (map_again m fits)
-read_again (Second m) fits = ap Second (summary_again 8 300 m fits)
+read_again (Second m) fits = ap Second (summary_again 8 EXTENTS_OF_L2 m fits)
 read_again (Third m) fits = ap Third (summary_again 9 3 m fits)
 read_again (Header h) fits = ap Header (header_again h fits)
 read_again (Rows x) fits = ap Rows (rows_again x fits)
@@ -77,7 +78,7 @@ alike : (xs : List ℕ) → first_wrong xs xs ≡ length xs
 alike [] = refl
 alike (x ∷ xs) = rw (eq-eqb x x refl) (omega (arith, alike xs))
 
-pub only : (d : ℕ) (bytes : List ℕ) (result : Result Page PageFault) → DecodesAt d bytes result → length bytes ≡ 4096 → (p : Page) → HasSpelling p → dba_of p ≡ d → bytes ≡ spelling_of p → IsReadAs p result
+pub only : (d : ℕ) (bytes : List ℕ) (result : Result Page PageFault) → DecodesAt d bytes result → length bytes ≡ BLOCK_SIZE → (p : Page) → HasSpelling p → dba_of p ≡ d → bytes ≡ spelling_of p → IsReadAs p result
 only d bytes (Ok q) h long p fits at is = h.0 ∙ means d bytes p fits at is
 only d bytes (Err NoMemory) h long p fits at is = tt
 only d bytes (Err (BadPage i)) h long p fits at is =

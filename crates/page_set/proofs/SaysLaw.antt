@@ -2,6 +2,7 @@
 use Rattle.std.proofs.Common.{◌≡◌, ℕ, ◌%◌, suc, true, false, cond, eqb, ◌||◌, List, [], ◌∷◌, ◌++◌, length, map, refl, sym, ap, ◌∙◌, inl, inr, Some, None}
 use Rattle.std.proofs.lemmas.Bool.{cases_Bool}
 use Rattle.std.proofs.lemmas.List.{map-append}
+use Rattle.seg_words.specs.Types.{EXTENTS_OF_L2}
 use Rattle.seg_base.specs.declared.slot.Slot.{Slot}
 use Rattle.seg_base.specs.declared.slot.ListEntry.{ListEntry}
 use Rattle.seg_base.specs.Blocks.{Block, new_block}
@@ -272,14 +273,14 @@ reuse_left q R b lsn p n h =
 table_says : (t : TableRecord) (R : List Record) (b : ℕ) (p : Page) → Says R b p → Says R b (or_kept (table_started t p) p)
 table_says t R b p h = elim (cases_Bool (eqb (dba_of p) 2)) [ inl y ↦ rw y (catalogue_says R b p h) | inr n ↦ rw n (dba_says R b p h) ]
 
-second_says : (index : ℕ) (R : List Record) (b : ℕ) (p : Page) → Says R b p → Says R b (or_kept (cond (eqb (index % 300) 0) (Some (new_second (dba_of p))) None) p)
-second_says index R b p h = elim (cases_Bool (eqb (index % 300) 0)) [ inl y ↦ rw y (dba_says R b p h) | inr n ↦ rw n h ]
+second_says : (index : ℕ) (R : List Record) (b : ℕ) (p : Page) → Says R b p → Says R b (or_kept (cond (eqb (index % EXTENTS_OF_L2) 0) (Some (new_second (dba_of p))) None) p)
+second_says index R b p h = elim (cases_Bool (eqb (index % EXTENTS_OF_L2) 0)) [ inl y ↦ rw y (dba_says R b p h) | inr n ↦ rw n h ]
 
 third_says : (index : ℕ) (R : List Record) (b : ℕ) (p : Page) → Says R b p → Says R b (or_kept (cond (eqb index 0) (Some (new_third (dba_of p))) None) p)
 third_says index R b p h = elim (cases_Bool (eqb index 0)) [ inl y ↦ rw y (dba_says R b p h) | inr n ↦ rw n h ]
 
 bitmap_says : (e : ExtendRecord) (R : List Record) (b lsn : ℕ) (p : Page) → Says R b p
-    → Says R b (or_kept (cond (eqb (dba_of p) e.l2) (cond (eqb (e.index % 300) 0) (Some (new_second (dba_of p))) None)
+    → Says R b (or_kept (cond (eqb (dba_of p) e.l2) (cond (eqb (e.index % EXTENTS_OF_L2) 0) (Some (new_second (dba_of p))) None)
     (cond (eqb (dba_of p) e.l3) (cond (eqb e.index 0) (Some (new_third (dba_of p))) None) (Some (new_first (dba_of p) lsn)))) p)
 bitmap_says e R b lsn p h = elim (cases_Bool (eqb (dba_of p) e.l2)) [
   | inl y ↦ rw y (second_says e.index R b p h)

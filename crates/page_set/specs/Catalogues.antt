@@ -1,5 +1,6 @@
 -- What a record does to the page of the catalogue, and when it can be done.
 use Rattle.std.specs.Prelude.{ℕ, ◌-◌, ◌≤◌, slice_set, Some}
+use Rattle.seg_words.specs.Types.{MOST_TABLES}
 use Rattle.segment_blocks.specs.Catalogues.{Tables}
 use Rattle.segment_blocks.specs.declared.entry.CatalogueEntry.{CatalogueEntry}
 use Rattle.redo_record.specs.declared.record.Record.{Record}
@@ -15,7 +16,7 @@ catalogue_changed (Table t) c = record c { entries = slice_set c.entries (t.obj 
 catalogue_changed _ c = c
 
 abbrev pub CatalogueFits : Record → Type 0
-CatalogueFits (Table t) = (1 ≤ t.obj) × (t.obj ≤ 32)
+CatalogueFits (Table t) = (1 ≤ t.obj) × (t.obj ≤ MOST_TABLES)
 CatalogueFits _ = ⊥
 
 abbrev pub catalogue_after : Record → ℕ → Tables → Tables

@@ -1,5 +1,6 @@
 -- What a record does to the page of a segment's header, and when it can be done.
 use Rattle.std.specs.Prelude.{ℕ, ◌<◌, ◌≤◌, [], ◌∷◌, ◌++◌, length, take}
+use Rattle.seg_words.specs.Types.{MOST_TABLES, MOST_EXTENTS, MOST_PCTFREE}
 use Rattle.segment_blocks.specs.Headers.{Header}
 use Rattle.redo_record.specs.declared.record.Record.{Record}
 use Rattle.redo_record.specs.declared.record.Record.TheVariants.{Table, Movement, Extend, Advance, Lower}
@@ -14,12 +15,12 @@ header_changed _ h = h
 
 -- a table's number is 1 to 32, and PCTFREE is at most 50
 abbrev pub TableFits : TableRecord → Type 0
-TableFits t = (1 ≤ t.obj) × (t.obj ≤ 32) × (t.pctfree ≤ 50)
+TableFits t = (1 ≤ t.obj) × (t.obj ≤ MOST_TABLES) × (t.pctfree ≤ MOST_PCTFREE)
 
 abbrev pub HeaderFits : Record → Header → Type 0
 HeaderFits (Table t) h = TableFits t
 HeaderFits (Movement m) h = Unit {0}
-HeaderFits (Extend e) h = length h.extents < 900
+HeaderFits (Extend e) h = length h.extents < MOST_EXTENTS
 HeaderFits (Advance a) h = Unit {0}
 HeaderFits (Lower l) h = Unit {0}
 HeaderFits _ h = ⊥

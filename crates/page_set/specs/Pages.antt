@@ -1,5 +1,6 @@
 -- A page of the store, whatever its kind, and the pages that records make anew.
 use Rattle.std.specs.Prelude.{ℕ, [], None, false, replicate}
+use Rattle.seg_words.specs.Types.{TXN_ENTRIES, MOST_TABLES, EXTENTS_OF_L2, MOST_EXTENT_BLOCKS}
 use Rattle.seg_base.specs.Blocks.{new_block}
 use Rattle.txn_block.specs.declared.entry.TableEntry.TheVariants.{Unused}
 use Rattle.segment_blocks.specs.Catalogues.{no_table}
@@ -35,10 +36,10 @@ lsn_of (Header h) = h.lsn
 lsn_of (Rows x) = x.lsn
 
 abbrev pub new_txns : ℕ → Page
-new_txns d = Txns (record { dba = d; lsn = 0; control = 0; last_txn = 0; last_row = 0; current_undo = None; entries = replicate 96 Unused })
+new_txns d = Txns (record { dba = d; lsn = 0; control = 0; last_txn = 0; last_row = 0; current_undo = None; entries = replicate TXN_ENTRIES Unused })
 
 abbrev pub new_catalogue : ℕ → Page
-new_catalogue d = Catalogue (record { dba = d; lsn = 0; entries = replicate 32 no_table })
+new_catalogue d = Catalogue (record { dba = d; lsn = 0; entries = replicate MOST_TABLES no_table })
 
 abbrev pub new_space : ℕ → Page
 new_space d = Space (record { dba = d; lsn = 0; lowerings = 0; bits = replicate 256 0 })
@@ -47,10 +48,10 @@ abbrev pub new_undo : ℕ → ℕ → Page
 new_undo d sequence = Undo (record { dba = d; lsn = 0; sequence = sequence; parts = [] })
 
 abbrev pub new_first : ℕ → ℕ → Page
-new_first d incarnation = First (record { dba = d; lsn = 0; incarnation = incarnation; codes = replicate 64 0 })
+new_first d incarnation = First (record { dba = d; lsn = 0; incarnation = incarnation; codes = replicate MOST_EXTENT_BLOCKS 0 })
 
 abbrev pub new_second : ℕ → Page
-new_second d = Second (record { dba = d; lsn = 0; codes = replicate 300 0 })
+new_second d = Second (record { dba = d; lsn = 0; codes = replicate EXTENTS_OF_L2 0 })
 
 abbrev pub new_third : ℕ → Page
 new_third d = Third (record { dba = d; lsn = 0; codes = replicate 3 0 })

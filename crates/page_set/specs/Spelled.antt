@@ -1,6 +1,7 @@
 -- The bytes of a page of any kind, and what some bytes read as at a block. The first byte tells the kind; a page that was
 -- never written is all zeros.
 use Rattle.std.specs.Prelude.{◌≡◌, ◌⊎◌, ℕ, ◌<◌, cond, eqb, List, slice_index, replicate, Result, Ok, Err}
+use Rattle.seg_words.specs.Types.{BLOCK_SIZE, EXTENTS_OF_L2}
 use Rattle.page_bytes.specs.declared.fault.PageFault.{PageFault}
 use Rattle.page_bytes.specs.declared.fault.PageFault.TheVariants.{BadPage, NoMemory}
 use Rattle.page_bytes.specs.Pages.{first_wrong}
@@ -17,7 +18,7 @@ use Rattle.page_set.specs.declared.page.Page.TheVariants.{Zero, Checkpoint, Txns
 use Rattle.page_set.specs.Pages.{dba_of}
 
 abbrev pub spelling_of : Page → List ℕ
-spelling_of (Zero d) = replicate 4096 0
+spelling_of (Zero d) = replicate BLOCK_SIZE 0
 spelling_of (Checkpoint p) = spelling_of_checkpoint p
 spelling_of (Txns t) = spelling_of_txns t
 spelling_of (Catalogue c) = spelling_of_tables c
@@ -38,7 +39,7 @@ HasSpelling (Catalogue c) = IsCatalogue c
 HasSpelling (Space s) = IsSpace s
 HasSpelling (Undo u) = IsUndoPage u
 HasSpelling (First m) = IsMap m
-HasSpelling (Second m) = IsSummary 300 m
+HasSpelling (Second m) = IsSummary EXTENTS_OF_L2 m
 HasSpelling (Third m) = IsSummary 3 m
 HasSpelling (Header h) = IsHeader h
 HasSpelling (Rows x) = IsRowPage x
@@ -51,7 +52,7 @@ read_as kind d bytes =
     (cond (eqb kind 4) (Space (space_in bytes))
     (cond (eqb kind 6) (Undo (undo_in bytes))
     (cond (eqb kind 7) (First (map_in bytes))
-    (cond (eqb kind 8) (Second (summary_in 300 bytes))
+    (cond (eqb kind 8) (Second (summary_in EXTENTS_OF_L2 bytes))
     (cond (eqb kind 9) (Third (summary_in 3 bytes))
     (cond (eqb kind 10) (Header (header_in bytes))
     (cond (eqb kind 11) (Rows (rows_in bytes)) (Zero d))))))))))
@@ -64,7 +65,7 @@ meaning_of d bytes = read_as (slice_index bytes 0) d bytes
 -- begins at the fourth byte.
 abbrev pub IsWrongAt : ℕ → List ℕ → ℕ → Type 0
 IsWrongAt d bytes at =
-    (at < 4096) × ((at ≡ first_wrong bytes (spelling_of (meaning_of d bytes))) ⊎ ((at ≡ 4) × ((dba_of (meaning_of d bytes) ≡ d → ⊥) × (bytes ≡ spelling_of (meaning_of d bytes)))))
+    (at < BLOCK_SIZE) × ((at ≡ first_wrong bytes (spelling_of (meaning_of d bytes))) ⊎ ((at ≡ 4) × ((dba_of (meaning_of d bytes) ≡ d → ⊥) × (bytes ≡ spelling_of (meaning_of d bytes)))))
 
 -- what decoding the page of block d answered
 abbrev pub DecodesAt : ℕ → List ℕ → Result Page PageFault → Type 0

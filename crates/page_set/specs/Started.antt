@@ -1,6 +1,7 @@
 -- The page that a record makes anew at a block, whatever stood there; none where it changes the page that is there. Which
 -- block is meant is told by its number: block 2 is the catalogue, block 3 the space bitmap.
 use Rattle.std.specs.Prelude.{ℕ, ◌%◌, cond, eqb, Option, Some, None}
+use Rattle.seg_words.specs.Types.{EXTENTS_OF_L2}
 use Rattle.redo_record.specs.declared.record.Record.{Record}
 use Rattle.redo_record.specs.declared.record.Record.TheVariants.{Table, Extend, FormatBlock, Begin, Reuse}
 use Rattle.redo_record.specs.declared.space.TableRecord.{TableRecord}
@@ -31,7 +32,7 @@ abbrev pub extent_started : ExtendRecord → ℕ → Page → Option Page
 extent_started e lsn p =
     cond (eqb (dba_of p) 3) (as_space p)
     (cond (eqb (dba_of p) e.header) None
-    (cond (eqb (dba_of p) e.l2) (cond (eqb (e.index % 300) 0) (Some (new_second (dba_of p))) None)
+    (cond (eqb (dba_of p) e.l2) (cond (eqb (e.index % EXTENTS_OF_L2) 0) (Some (new_second (dba_of p))) None)
     (cond (eqb (dba_of p) e.l3) (cond (eqb e.index 0) (Some (new_third (dba_of p))) None)
     (Some (new_first (dba_of p) lsn)))))
 

@@ -1,5 +1,6 @@
 -- What a record does to the page of the transaction table, and when it can be done.
 use Rattle.std.specs.Prelude.{ℕ, ◌<◌, slice_set, slice_get, Option, Some, None}
+use Rattle.seg_words.specs.Types.{TXN_ENTRIES}
 use Rattle.seg_base.specs.declared.slot.UndoAddr.{UndoAddr}
 use Rattle.txn_block.specs.declared.entry.Outcome.{Outcome}
 use Rattle.txn_block.specs.declared.entry.Outcome.TheVariants.{Active, Committed, RolledBack}
@@ -42,17 +43,17 @@ UndoIsBlock None = Unit {0}
 UndoIsBlock (Some a) = 0 < a.block
 
 abbrev pub RowFits : RowBody → Type 0
-RowFits w = (w.entry < 96) × (0 < w.undo.block)
+RowFits w = (w.entry < TXN_ENTRIES) × (0 < w.undo.block)
 
 abbrev pub TxnsFit : Record → Type 0
-TxnsFit (Begin g) = g.entry < 96
+TxnsFit (Begin g) = g.entry < TXN_ENTRIES
 TxnsFit (Reuse q) = 0 < q.block
 TxnsFit (Insert w) = RowFits w
 TxnsFit (Update w) = RowFits w
 TxnsFit (Migrate w) = RowFits w
 TxnsFit (Return w) = RowFits w
 TxnsFit (Delete w) = RowFits w
-TxnsFit (Commit c) = c.entry < 96
-TxnsFit (Back k) = (k.entry < 96) × UndoIsBlock k.last
-TxnsFit (Ended e) = e.entry < 96
+TxnsFit (Commit c) = c.entry < TXN_ENTRIES
+TxnsFit (Back k) = (k.entry < TXN_ENTRIES) × UndoIsBlock k.last
+TxnsFit (Ended e) = e.entry < TXN_ENTRIES
 TxnsFit _ = ⊥

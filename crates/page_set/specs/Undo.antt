@@ -2,7 +2,7 @@
 use Rattle.std.specs.Prelude.{◌≡◌, ℕ, ◌+◌, ◌≤◌, cond, eqb, List, [], ◌∷◌, ◌++◌, length, Option}
 use Rattle.seg_base.specs.declared.undo.UndoPlace.{UndoPlace}
 use Rattle.undo_block.specs.declared.part.Part.{Part}
-use Rattle.seg_words.specs.Types.{AllByRecursion}
+use Rattle.seg_words.specs.Types.{AllByRecursion, BLOCK_ROOM}
 use Rattle.undo_block.specs.Parts.{used_by, HasPartForm}
 use Rattle.undo_block.specs.UndoPage.{UndoPage}
 use Rattle.redo_record.specs.declared.part.RowPart.{RowPart}
@@ -27,7 +27,7 @@ undo_after e lsn u = record { dba = u.dba; lsn = lsn; sequence = u.sequence; par
 
 -- the parts of a step have a spelling, and fit in its undo block
 abbrev pub StepFits : Step → UndoPage → Type 0
-StepFits st u = (st.undo.block ≡ u.dba) × (used_by u.parts + used_by (parts_of st) ≤ 4032) × AllByRecursion HasPartForm (parts_of st)
+StepFits st u = (st.undo.block ≡ u.dba) × (used_by u.parts + used_by (parts_of st) ≤ BLOCK_ROOM) × AllByRecursion HasPartForm (parts_of st)
 
 abbrev pub PartsFit : Effect → UndoPage → Type 0
 PartsFit (Adds st) u = StepFits st u

@@ -7,7 +7,7 @@ ghost use Rattle.redo_record.specs.declared.record.Record.TheVariants.{Table};
 
 use crate::fault::Unfit;
 use redo_record::{Record, TableRecord};
-use seg_base::Lsn;
+use seg_base::{Lsn, MOST_TABLES};
 use segment_blocks::{Catalogue, NamedTable};
 use std::alloc::Global;
 
@@ -18,7 +18,7 @@ fn add_table(alloc: Global, catalogue: &mut Catalogue, table: &TableRecord) -> R
     ensures kept { Kept result catalogue.old catalogue.new }
 {
     let obj = table.obj;
-    if obj.0 == 0 || obj.0 > 32 {
+    if obj.0 == 0 || obj.0 > MOST_TABLES {
         return Err(Unfit::Misfit);
     }
     let name = table.name.duplicate(alloc)?;

@@ -1,5 +1,6 @@
 // The bytes of a page of any kind.
 ghost use Rattle.std.specs.Prelude.{◌≡◌, List, ℕ};
+ghost use Rattle.seg_words.specs.Types.{EXTENTS_OF_L2};
 ghost use Rattle.page_bytes.specs.Pages.{Decodes, IsReadAs};
 ghost use Rattle.bitmap_block.specs.Pages.{map_in, summary_in};
 ghost use Rattle.row_block.specs.Spelling.{page_in as rows_in};
@@ -18,95 +19,95 @@ use crate::page::{Page, dba_of};
 use bitmap_block::{L1, L2, L3};
 use page_bytes::{PageFault, PageForm, first_wrong};
 use row_block::RowBlock;
-use seg_base::Dba;
+use seg_base::{BLOCK_SIZE, Dba};
 use segment_blocks::{Catalogue, CheckpointPage, SegmentHeader, SpaceBitmap};
 use std::alloc::Global;
 use txn_block::TxnBlock;
 use undo_block::UndoBlock;
 
-static ZEROS: [u8; 4096] = [0; 4096];
+static ZEROS: [u8; BLOCK_SIZE] = [0; BLOCK_SIZE];
 
-fn read_checkpoint(alloc: Global, bytes: &[u8; 4096]) -> Result<Page, PageFault>
+fn read_checkpoint(alloc: Global, bytes: &[u8; BLOCK_SIZE]) -> Result<Page, PageFault>
     ensures { Decodes spelling_of (λ b. kinds.Checkpoint (checkpoint_in b)) bytes.now result }
 {
     let page: CheckpointPage = page_bytes::decode(alloc, bytes)?;
     Ok(Page::Checkpoint(page))
 }
 
-fn read_txns(alloc: Global, bytes: &[u8; 4096]) -> Result<Page, PageFault>
+fn read_txns(alloc: Global, bytes: &[u8; BLOCK_SIZE]) -> Result<Page, PageFault>
     ensures { Decodes spelling_of (λ b. kinds.Txns (txns_in b)) bytes.now result }
 {
     let page: TxnBlock = page_bytes::decode(alloc, bytes)?;
     Ok(Page::Txns(page))
 }
 
-fn read_catalogue(alloc: Global, bytes: &[u8; 4096]) -> Result<Page, PageFault>
+fn read_catalogue(alloc: Global, bytes: &[u8; BLOCK_SIZE]) -> Result<Page, PageFault>
     ensures { Decodes spelling_of (λ b. kinds.Catalogue (tables_in b)) bytes.now result }
 {
     let page: Catalogue = page_bytes::decode(alloc, bytes)?;
     Ok(Page::Catalogue(page))
 }
 
-fn read_space(alloc: Global, bytes: &[u8; 4096]) -> Result<Page, PageFault>
+fn read_space(alloc: Global, bytes: &[u8; BLOCK_SIZE]) -> Result<Page, PageFault>
     ensures { Decodes spelling_of (λ b. kinds.Space (space_in b)) bytes.now result }
 {
     let page: SpaceBitmap = page_bytes::decode(alloc, bytes)?;
     Ok(Page::Space(page))
 }
 
-fn read_undo(alloc: Global, bytes: &[u8; 4096]) -> Result<Page, PageFault>
+fn read_undo(alloc: Global, bytes: &[u8; BLOCK_SIZE]) -> Result<Page, PageFault>
     ensures { Decodes spelling_of (λ b. kinds.Undo (undo_in b)) bytes.now result }
 {
     let page: UndoBlock = page_bytes::decode(alloc, bytes)?;
     Ok(Page::Undo(page))
 }
 
-fn read_first(alloc: Global, bytes: &[u8; 4096]) -> Result<Page, PageFault>
+fn read_first(alloc: Global, bytes: &[u8; BLOCK_SIZE]) -> Result<Page, PageFault>
     ensures { Decodes spelling_of (λ b. kinds.First (map_in b)) bytes.now result }
 {
     let page: L1 = page_bytes::decode(alloc, bytes)?;
     Ok(Page::First(page))
 }
 
-fn read_second(alloc: Global, bytes: &[u8; 4096]) -> Result<Page, PageFault>
-    ensures { Decodes spelling_of (λ b. kinds.Second (summary_in 300 b)) bytes.now result }
+fn read_second(alloc: Global, bytes: &[u8; BLOCK_SIZE]) -> Result<Page, PageFault>
+    ensures { Decodes spelling_of (λ b. kinds.Second (summary_in EXTENTS_OF_L2 b)) bytes.now result }
 {
     let page: L2 = page_bytes::decode(alloc, bytes)?;
     Ok(Page::Second(page))
 }
 
-fn read_third(alloc: Global, bytes: &[u8; 4096]) -> Result<Page, PageFault>
+fn read_third(alloc: Global, bytes: &[u8; BLOCK_SIZE]) -> Result<Page, PageFault>
     ensures { Decodes spelling_of (λ b. kinds.Third (summary_in 3 b)) bytes.now result }
 {
     let page: L3 = page_bytes::decode(alloc, bytes)?;
     Ok(Page::Third(page))
 }
 
-fn read_header(alloc: Global, bytes: &[u8; 4096]) -> Result<Page, PageFault>
+fn read_header(alloc: Global, bytes: &[u8; BLOCK_SIZE]) -> Result<Page, PageFault>
     ensures { Decodes spelling_of (λ b. kinds.Header (header_in b)) bytes.now result }
 {
     let page: SegmentHeader = page_bytes::decode(alloc, bytes)?;
     Ok(Page::Header(page))
 }
 
-fn read_rows(alloc: Global, bytes: &[u8; 4096]) -> Result<Page, PageFault>
+fn read_rows(alloc: Global, bytes: &[u8; BLOCK_SIZE]) -> Result<Page, PageFault>
     ensures { Decodes spelling_of (λ b. kinds.Rows (rows_in b)) bytes.now result }
 {
     let page: RowBlock = page_bytes::decode(alloc, bytes)?;
     Ok(Page::Rows(page))
 }
 
-fn read_zero(dba: Dba, bytes: &[u8; 4096]) -> Result<Page, PageFault>
+fn read_zero(dba: Dba, bytes: &[u8; BLOCK_SIZE]) -> Result<Page, PageFault>
     ensures { Decodes spelling_of (λ b. kinds.Zero dba) bytes.now result }
 {
     let at = first_wrong(bytes, &ZEROS);
-    if at < 4096 {
+    if at < BLOCK_SIZE {
         return Err(PageFault::BadPage { offset: at as u16 });
     }
     Ok(Page::Zero(dba))
 }
 
-fn read(alloc: Global, dba: Dba, bytes: &[u8; 4096]) -> Result<Page, PageFault>
+fn read(alloc: Global, dba: Dba, bytes: &[u8; BLOCK_SIZE]) -> Result<Page, PageFault>
     ensures { Decodes spelling_of (meaning_of dba) bytes.now result }
 {
     match bytes[0] {
@@ -124,7 +125,7 @@ fn read(alloc: Global, dba: Dba, bytes: &[u8; 4096]) -> Result<Page, PageFault>
     }
 }
 
-fn read_at(alloc: Global, dba: Dba, bytes: &[u8; 4096]) -> Result<Page, PageFault>
+fn read_at(alloc: Global, dba: Dba, bytes: &[u8; BLOCK_SIZE]) -> Result<Page, PageFault>
     ensures { DecodesAt dba bytes.now result }
 {
     let page = read(alloc, dba, bytes)?;
@@ -136,7 +137,7 @@ fn read_at(alloc: Global, dba: Dba, bytes: &[u8; 4096]) -> Result<Page, PageFaul
 
 /// The page that a block's bytes spell, or the first byte that is wrong. The page of another block is none: its first wrong
 /// byte is told as that of the block's number.
-pub fn decode(alloc: Global, dba: Dba, bytes: &[u8; 4096]) -> Result<Page, PageFault>
+pub fn decode(alloc: Global, dba: Dba, bytes: &[u8; BLOCK_SIZE]) -> Result<Page, PageFault>
     ensures exact { DecodesAt dba bytes.now result }
     // What is spelled is read.
     ensures only { (p : Page) → HasSpelling p → dba_of p ≡ dba → bytes.now ≡ spelling_of p → IsReadAs p result }
@@ -145,11 +146,11 @@ pub fn decode(alloc: Global, dba: Dba, bytes: &[u8; 4096]) -> Result<Page, PageF
 }
 
 /// Writes the one page that spells it.
-pub fn encode(page: &Page, out: &mut [u8; 4096])
+pub fn encode(page: &Page, out: &mut [u8; BLOCK_SIZE])
     ensures { out.new ≡ spelling_of page.now }
 {
     match page {
-        Page::Zero(_) => *out = [0; 4096],
+        Page::Zero(_) => *out = [0; BLOCK_SIZE],
         Page::Checkpoint(point) => point.write(out),
         Page::Txns(table) => table.write(out),
         Page::Catalogue(catalogue) => catalogue.write(out),

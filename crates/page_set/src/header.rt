@@ -7,7 +7,7 @@ ghost use Rattle.redo_record.specs.declared.record.Record.TheVariants.{Extend, L
 
 use crate::fault::Unfit;
 use redo_record::{ExtendRecord, LowerRecord, Record, TableRecord};
-use seg_base::Lsn;
+use seg_base::{Lsn, MOST_EXTENTS, MOST_PCTFREE, MOST_TABLES};
 use segment_blocks::SegmentHeader;
 
 /// Whether a table's number and its PCTFREE are within their bounds.
@@ -15,7 +15,7 @@ pub fn table_fits(table: &TableRecord) -> bool
     ensures { IsTrue result ↔ TableFits table.now }
 {
     let obj = table.obj;
-    obj.0 >= 1 && obj.0 <= 32 && table.pctfree <= 50
+    obj.0 >= 1 && obj.0 <= MOST_TABLES && table.pctfree <= MOST_PCTFREE
 }
 
 fn add_extent(header: &mut SegmentHeader, e: &ExtendRecord) -> Result<(), Unfit>
@@ -24,7 +24,7 @@ fn add_extent(header: &mut SegmentHeader, e: &ExtendRecord) -> Result<(), Unfit>
     ensures fault { HeaderFits (Extend e.now) header.old → IfErr result (λ e. e ≡ faults.NoMemory) }
     ensures kept { Kept result header.old header.new }
 {
-    if header.extents() >= 900 {
+    if header.extents() >= MOST_EXTENTS {
         return Err(Unfit::Misfit);
     }
     header.add_extent(e.extent)?;

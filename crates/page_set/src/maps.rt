@@ -7,7 +7,7 @@ ghost use Rattle.redo_record.specs.declared.record.Record.TheVariants.{Lower};
 use crate::fault::Unfit;
 use bitmap_block::{L1, L2, L3};
 use redo_record::{LowerRecord, Record};
-use seg_base::{Dba, Lsn, class_code};
+use seg_base::{Dba, EXTENTS_OF_L2, Lsn, MOST_EXTENT_BLOCKS, MOST_EXTENTS, class_code};
 
 fn set_first(map: &mut L1, dba: Dba, code: u8) -> Result<(), Unfit>
     requires { code ≤ 5 }
@@ -15,7 +15,7 @@ fn set_first(map: &mut L1, dba: Dba, code: u8) -> Result<(), Unfit>
     ensures fault { IsMisfit result (IsIn map.old dba) }
 {
     let first = map.dba();
-    if dba < first || dba.0 - first.0 >= 64 {
+    if dba < first || dba.0 - first.0 >= MOST_EXTENT_BLOCKS {
         return Err(Unfit::Misfit);
     }
     map.set((dba.0 - first.0) as u16, code);
@@ -23,24 +23,24 @@ fn set_first(map: &mut L1, dba: Dba, code: u8) -> Result<(), Unfit>
 }
 
 fn set_second(map: &mut L2, index: u16, code: u8) -> Result<(), Unfit>
-    ensures done { OnOk result (map.new ≡ with_best map.old (index % 300) code) }
+    ensures done { OnOk result (map.new ≡ with_best map.old (index % EXTENTS_OF_L2) code) }
     ensures fault { IsMisfit result (code ≤ 5) }
 {
     if code > 5 {
         return Err(Unfit::Misfit);
     }
-    map.set(index % 300, code);
+    map.set(index % EXTENTS_OF_L2 as u16, code);
     Ok(())
 }
 
 fn set_third(map: &mut L3, index: u16, code: u8) -> Result<(), Unfit>
-    ensures done { OnOk result (map.new ≡ with_best map.old (index / 300) code) }
-    ensures fault { IsMisfit result ((index < 900) × (code ≤ 5)) }
+    ensures done { OnOk result (map.new ≡ with_best map.old (index / EXTENTS_OF_L2) code) }
+    ensures fault { IsMisfit result ((index < MOST_EXTENTS) × (code ≤ 5)) }
 {
-    if code > 5 || index >= 900 {
+    if code > 5 || index >= MOST_EXTENTS {
         return Err(Unfit::Misfit);
     }
-    map.set(index / 300, code);
+    map.set(index / EXTENTS_OF_L2 as u16, code);
     Ok(())
 }
 
@@ -60,14 +60,17 @@ fn covered_from(l2: &[Option<Dba>; 3], dba: Dba) -> u16
     if is_block(l2[0], dba) {
         return 0;
     }
-    if is_block(l2[1], dba) { 300 } else { 600 }
+    if is_block(l2[1], dba) {
+        return EXTENTS_OF_L2 as u16;
+    }
+    (2 * EXTENTS_OF_L2) as u16
 }
 
 fn lower_second(map: &mut L2, l: &LowerRecord)
     ensures { map.new ≡ second_changed (Lower l.now) map.old }
 {
     let kept = l.kept.saturating_sub(covered_from(&l.l2, map.dba()));
-    map.clear_from(kept.min(300));
+    map.clear_from(kept.min(EXTENTS_OF_L2 as u16));
 }
 
 fn lower_third(map: &mut L3, l: &LowerRecord) -> Result<(), Unfit>

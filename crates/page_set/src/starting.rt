@@ -11,7 +11,7 @@ use crate::page::{Page, dba_of};
 use bitmap_block::{L1, L2, L3};
 use redo_record::{ExtendRecord, Record, TableRecord};
 use row_block::RowBlock;
-use seg_base::{Dba, Lsn, NoMemory};
+use seg_base::{Dba, EXTENTS_OF_L2, Lsn, NoMemory};
 use segment_blocks::{Catalogue, SegmentHeader, SpaceBitmap};
 use std::alloc::Global;
 use txn_block::TxnBlock;
@@ -82,7 +82,7 @@ fn extent_started(page: &Page, e: &ExtendRecord, lsn: Lsn) -> Option<Page>
         return None;
     }
     if dba == e.l2 {
-        if e.index % 300 == 0 {
+        if e.index % EXTENTS_OF_L2 as u16 == 0 {
             return Some(Page::Second(L2::new(dba)));
         }
         return None;

@@ -5,7 +5,7 @@ ghost use Rattle.page_set.specs.Among.{is_among, blocks_of, back_blocks};
 ghost use Rattle.page_set.specs.Folded.{first_of, those, touched_by_row, touched, touched_once, with_block, with_all};
 
 use redo_record::{BackPart, LowerRecord, Record, RowBody, RowPart};
-use seg_base::{Dba, NoMemory, Shape};
+use seg_base::{Dba, NoMemory, OWN_BLOCKS, Shape};
 use std::alloc::Global;
 
 const TXNS: Dba = Dba(1);
@@ -18,7 +18,9 @@ const SPACE: Dba = Dba(3);
 fn extent_block(shape: &Shape, extent: u32) -> Dba
     ensures { result ≡ min (first_block shape.now extent) 4294967295 }
 {
-    let first = 37 + u64::from(shape.undo) + u64::from(extent) * u64::from(shape.extent);
+    let first = u64::from(OWN_BLOCKS)
+        + u64::from(shape.undo)
+        + u64::from(extent) * u64::from(shape.extent);
     Dba(first.min(4294967295) as u32)
 }
 
@@ -26,7 +28,7 @@ fn extent_block(shape: &Shape, extent: u32) -> Dba
 fn first_of(shape: &Shape, dba: Dba) -> Dba
     ensures { result ≡ first_of shape.now dba }
 {
-    let heads = 37 + u64::from(shape.undo);
+    let heads = u64::from(OWN_BLOCKS) + u64::from(shape.undo);
     let place = u64::from(dba.0).saturating_sub(heads) % u64::from(shape.extent.max(1));
     Dba((u64::from(dba.0) - place) as u32)
 }

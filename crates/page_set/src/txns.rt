@@ -7,7 +7,7 @@ ghost use Rattle.redo_record.specs.declared.record.Record.TheVariants.{Commit};
 
 use crate::fault::Unfit;
 use redo_record::{BeginRecord, CommitRecord, Record, RowBody};
-use seg_base::{Lsn, TxnId, UndoAddr};
+use seg_base::{Lsn, TXN_ENTRIES, TxnId, UndoAddr};
 use txn_block::{Outcome, TableEntry, TxnBlock, TxnEntry};
 
 fn has_block(undo: Option<UndoAddr>) -> bool
@@ -28,9 +28,9 @@ fn put_entry(
     undo: Option<UndoAddr>,
 ) -> Result<(), Unfit>
     ensures done { OnOk result (table.new ≡ with_entry table.old i txn outcome undo) }
-    ensures fault { IsMisfit result ((i < 96) × UndoIsBlock undo) }
+    ensures fault { IsMisfit result ((i < TXN_ENTRIES) × UndoIsBlock undo) }
 {
-    if i >= 96 || !has_block(undo) {
+    if i >= TXN_ENTRIES || !has_block(undo) {
         return Err(Unfit::Misfit);
     }
     table.put_entry(
@@ -73,7 +73,7 @@ fn insert(table: &mut TxnBlock, w: &RowBody) -> Result<(), Unfit>
 
 fn begin(table: &mut TxnBlock, g: &BeginRecord) -> Result<(), Unfit>
     ensures done { OnOk result (table.new ≡ with_entry (record table.old { last_txn = g.now.txn; control = g.now.control }) g.now.entry g.now.txn Active None) }
-    ensures fault { IsMisfit result (g.now.entry < 96) }
+    ensures fault { IsMisfit result (g.now.entry < TXN_ENTRIES) }
 {
     table.set_begun(g.txn, g.control);
     put_entry(table, g.entry, g.txn, Outcome::Active, None)
@@ -82,7 +82,7 @@ fn begin(table: &mut TxnBlock, g: &BeginRecord) -> Result<(), Unfit>
 /// Ends a transaction: its entry keeps its last undo address.
 fn finish(table: &mut TxnBlock, i: u8, txn: TxnId, outcome: Outcome) -> Result<(), Unfit>
     ensures done { OnOk result (table.new ≡ with_entry table.old i txn outcome (undo_at table.old i)) }
-    ensures fault { IsMisfit result (i < 96) }
+    ensures fault { IsMisfit result (i < TXN_ENTRIES) }
 {
     let undo = undo_at(table, i);
     put_entry(table, i, txn, outcome, undo)
@@ -130,9 +130,9 @@ pub fn change_txns(table: &mut TxnBlock, rec: &Record, lsn: Lsn) -> Result<(), U
 pub fn commit_txns(table: &mut TxnBlock, c: CommitRecord, lsn: Lsn) -> Result<(), Unfit>
     ensures done { OnOk result (table.new ≡ txns_after (Commit c) lsn table.old) }
     ensures kept { OnErr result (table.new ≡ table.old) }
-    ensures fault { IsMisfit result (c.entry < 96) }
+    ensures fault { IsMisfit result (c.entry < TXN_ENTRIES) }
 {
-    if c.entry >= 96 {
+    if c.entry >= TXN_ENTRIES {
         return Err(Unfit::Misfit);
     }
     let undo = undo_at(table, c.entry);

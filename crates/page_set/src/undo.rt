@@ -1,7 +1,7 @@
 // What a record does to an undo block.
 ghost use Rattle.std.specs.Prelude.{◌≡◌, ◌+◌, ◌≤◌, ◌++◌, length, cond, eqb, OnOk, IfErr, List, false, true};
 ghost use Rattle.redo_model.specs.Effects.{Step, Adds, effect_of, row_step, move_step};
-ghost use Rattle.seg_words.specs.Types.{AllByRecursion};
+ghost use Rattle.seg_words.specs.Types.{AllByRecursion, BLOCK_ROOM};
 ghost use Rattle.undo_block.specs.Parts.{used_by, HasPartForm};
 ghost use Rattle.page_set.specs.Undo.{kept_parts, parts_of, undo_after, undo_changed, StepFits, txn_of};
 ghost use Rattle.page_set.specs.Faults.{Kept};
@@ -45,8 +45,8 @@ fn keep(
 
 fn append(block: &mut UndoBlock, kept: Vec<Part>) -> Result<(), Unfit>
     ensures done { OnOk result (block.new ≡ record block.old { parts = block.old.parts ++ kept.items }) }
-    ensures fits { OnOk result ((used_by block.old.parts + used_by kept.items ≤ 4032) × AllByRecursion HasPartForm kept.items) }
-    ensures fault { used_by block.old.parts + used_by kept.items ≤ 4032 → AllByRecursion HasPartForm kept.items → IfErr result (λ e. e ≡ faults.NoMemory) }
+    ensures fits { OnOk result ((used_by block.old.parts + used_by kept.items ≤ BLOCK_ROOM) × AllByRecursion HasPartForm kept.items) }
+    ensures fault { used_by block.old.parts + used_by kept.items ≤ BLOCK_ROOM → AllByRecursion HasPartForm kept.items → IfErr result (λ e. e ≡ faults.NoMemory) }
     ensures kept { Kept result block.old block.new }
 {
     if !have_part_form(&kept) {
@@ -70,8 +70,8 @@ fn add(
 ) -> Result<(), Unfit>
     requires { length parts.now ≤ 3 }
     ensures done { OnOk result (block.new ≡ record block.old { parts = cond (eqb at block.old.dba) (block.old.parts ++ kept_parts txn previous (length parts.now) parts.now) block.old.parts }) }
-    ensures fits { OnOk result ((at ≡ block.old.dba) × (used_by block.old.parts + used_by (kept_parts txn previous (length parts.now) parts.now) ≤ 4032) × AllByRecursion HasPartForm (kept_parts txn previous (length parts.now) parts.now)) }
-    ensures fault { at ≡ block.old.dba → used_by block.old.parts + used_by (kept_parts txn previous (length parts.now) parts.now) ≤ 4032 → AllByRecursion HasPartForm (kept_parts txn previous (length parts.now) parts.now) → IfErr result (λ e. e ≡ faults.NoMemory) }
+    ensures fits { OnOk result ((at ≡ block.old.dba) × (used_by block.old.parts + used_by (kept_parts txn previous (length parts.now) parts.now) ≤ BLOCK_ROOM) × AllByRecursion HasPartForm (kept_parts txn previous (length parts.now) parts.now)) }
+    ensures fault { at ≡ block.old.dba → used_by block.old.parts + used_by (kept_parts txn previous (length parts.now) parts.now) ≤ BLOCK_ROOM → AllByRecursion HasPartForm (kept_parts txn previous (length parts.now) parts.now) → IfErr result (λ e. e ≡ faults.NoMemory) }
     ensures kept { Kept result block.old block.new }
 {
     if at != block.dba().0 {

@@ -8,18 +8,19 @@ ghost use Rattle.page_says.specs.Levels.{SaysFirst, SaysSecond, SaysThird};
 
 use crate::WrongPage;
 use page_set::Page;
+use seg_base::{EXTENTS_OF_L2, MOST_EXTENT_BLOCKS};
 
 /// The code of a data block, the nth of its extent, by the page of the extent's first level: that of its kept class, 1 to 5,
 /// once it is formatted, else 0.
 #[tactic(auto, using(crate::proofs::Codes::code_says))]
 pub fn code_of_block(page: &Page, nth: u16) -> Result<u8, WrongPage>
     ensures says { (sh : TheShape) (R : List Record) (index : ℕ) (e : Extent) → SaysFirst sh R index e page.now → is_in (first_block sh e.number + nth) (extent_data sh index e.number) ≡ true → IfOk result (λ c. c ≡ code_of sh R (first_block sh e.number + nth)) }
-    ensures right { (sh : TheShape) (R : List Record) (index : ℕ) (e : Extent) → SaysFirst sh R index e page.now → nth < 64 → IsOk result }
+    ensures right { (sh : TheShape) (R : List Record) (index : ℕ) (e : Extent) → SaysFirst sh R index e page.now → nth < MOST_EXTENT_BLOCKS → IsOk result }
 {
     let Page::First(map) = page else {
         return Err(WrongPage);
     };
-    if nth >= 64 {
+    if nth >= MOST_EXTENT_BLOCKS as u16 {
         return Err(WrongPage);
     }
     Ok(map.get(nth))
@@ -29,12 +30,12 @@ pub fn code_of_block(page: &Page, nth: u16) -> Result<u8, WrongPage>
 /// those that it covers.
 pub fn best_of_extent(page: &Page, nth: u16) -> Result<u8, WrongPage>
     ensures says { (sh : TheShape) (R : List Record) (o start : ℕ) → SaysSecond sh R o start page.now → IfOk result (λ c. c ≡ best_in_l1 sh R o (start + nth)) }
-    ensures right { (sh : TheShape) (R : List Record) (o start : ℕ) → SaysSecond sh R o start page.now → nth < 300 → IsOk result }
+    ensures right { (sh : TheShape) (R : List Record) (o start : ℕ) → SaysSecond sh R o start page.now → nth < EXTENTS_OF_L2 → IsOk result }
 {
     let Page::Second(map) = page else {
         return Err(WrongPage);
     };
-    if nth >= 300 {
+    if nth >= EXTENTS_OF_L2 as u16 {
         return Err(WrongPage);
     }
     Ok(map.get(nth))
@@ -42,7 +43,7 @@ pub fn best_of_extent(page: &Page, nth: u16) -> Result<u8, WrongPage>
 
 /// The best of the extents that the nth second level covers, by the page of the third level.
 pub fn best_of_group(page: &Page, nth: u16) -> Result<u8, WrongPage>
-    ensures says { (sh : TheShape) (R : List Record) (o : ℕ) → SaysThird sh R o page.now → IfOk result (λ c. c ≡ best_in_l2 sh R o (300 * nth)) }
+    ensures says { (sh : TheShape) (R : List Record) (o : ℕ) → SaysThird sh R o page.now → IfOk result (λ c. c ≡ best_in_l2 sh R o (EXTENTS_OF_L2 * nth)) }
     ensures right { (sh : TheShape) (R : List Record) (o : ℕ) → SaysThird sh R o page.now → nth < 3 → IsOk result }
 {
     let Page::Third(map) = page else {

@@ -1,7 +1,7 @@
 -- A Begin leaves what was found before it for the transaction that begins.
 use Rattle.std.proofs.Common.{◌≡◌, ℕ, zero, suc, ◌+◌, ◌-◌, ◌*◌, ◌<◌, max, Bool, true, false, cond, not, ◌&&◌, eqb, ltb, nat_lt, nat_le, if◌then◌else◌, List, [], ◌∷◌, length, get_or, slice_index_or, find, is_none, option_map, MatchOption, Option, Some, None, refl, sym, ◌∙◌, ap, ap₂, subst, arith, inl, inr, eq-eqb, ne_eqb, eqb-true, le-ltb}
 use Rattle.seg_words.proofs.Lemmas.{cond-true, cond-false, or_cases, or_left, or_right, and_left}
-use Rattle.seg_words.specs.Types.{Shape, Slot, Writer, By, At, Block, Rowid, UndoAddr, new_slot, writer_has_ended, row_size, slot_size, is_spare, names, other_entry, entry_for, entry_size, used_of, fits_beside}
+use Rattle.seg_words.specs.Types.{Shape, Slot, Writer, By, At, Block, Rowid, UndoAddr, new_slot, writer_has_ended, row_size, slot_size, is_spare, names, other_entry, entry_for, entry_size, used_of, fits_beside, BLOCK_ROOM, LIST_ENTRY_SIZE, LEAST_LIST_ENTRIES, OWN_BLOCKS, UNDO_PART_SIZE}
 use Rattle.redo_model.specs.Records.{Record, Begin, Reuse, BeginRecord, ReuseRecord, RowPart}
 use Rattle.redo_model.specs.Model.{Step, part_addr, txn_count, is_active, ended_in, entry_of, last_undo, image_with, place_of_undo, number_or_zero, is_by, standing, newest_of, undo_of_step, newest_on, image, slots_of, block_of, changed, table_at, IsTable, IsRowBlock, pctfree_of, current_undo, undo_used, has_holder, row_count, plain_row, ring_after, next_undo, IsFreeFor, AreAllowed}
 use Rattle.redo_model.proofs.Bridge.{image_is}
@@ -39,7 +39,7 @@ sized : (f g : ℕ → Bool) (s : Slot) → Agrees f g s → row_size g s ≡ ro
 sized f g s e = ap (λ (v : Bool). if v then length s.bytes else s.room) e
 
 used_same : (f g : ℕ → Bool) (t : ℕ) (x : Block) → Begun f g t x → used_of g x ≡ used_of f x
-used_same f g t x h = ap (λ n. n + 24 * (length x.entries - 2)) (sums_same (slot_size g) (slot_size f) x.slots (sizes f g x.slots h.writers))
+used_same f g t x h = ap (λ n. n + LIST_ENTRY_SIZE * (length x.entries - LEAST_LIST_ENTRIES)) (sums_same (slot_size g) (slot_size f) x.slots (sizes f g x.slots h.writers))
 
 entry_same : (f g : ℕ → Bool) (t : ℕ) (x : Block) → Begun f g t x → entry_for g x t ≡ other_entry f x
 entry_same f g t x h =
@@ -49,7 +49,7 @@ entry_same f g t x h =
 fits_by : (f g : ℕ → Bool) (t : ℕ) (x : Block) (k len : ℕ) (o : Option ℕ) → Begun f g t x → fits_beside g x k len (option_map (entry_size x) o) ≡ fits_beside f x k len (option_map (entry_size x) o)
 fits_by f g t x k len None h = refl
 fits_by f g t x k len (Some i) h =
-    ap₂ (λ (m n : ℕ). nat_le ((len - m) + entry_size x i) (4032 - n)) (sized f g (slice_index_or x.slots k new_slot) (at_every (Agrees f g) new_slot x.slots k refl h.writers)) (used_same f g t x h)
+    ap₂ (λ (m n : ℕ). nat_le ((len - m) + entry_size x i) (BLOCK_ROOM - n)) (sized f g (slice_index_or x.slots k new_slot) (at_every (Agrees f g) new_slot x.slots k refl h.writers)) (used_same f g t x h)
 
 -- steps and views
 
@@ -80,7 +80,7 @@ free_same sh R g h e x = ap (λ (o : Option ℕ). not (elim o as (λ y. Bool) [ 
 next_same : (sh : Shape) (R : List Record) (g : BeginRecord) → AreAllowed sh R → g.txn ≡ suc (txn_count R) → next_undo sh (Begin g ∷ R) ≡ next_undo sh R
 next_same sh R g h e = go (current_undo R)
   where
-    go : (o : Option ℕ) → ◌≡◌ {A = Option ℕ} (elim o as (λ y. Option ℕ) [ None ↦ Some 37 | Some u ↦ find (λ b. not (has_holder (Begin g ∷ R) b)) (ring_after sh u) ]) (elim o as (λ y. Option ℕ) [ None ↦ Some 37 | Some u ↦ find (λ b. not (has_holder R b)) (ring_after sh u) ])
+    go : (o : Option ℕ) → ◌≡◌ {A = Option ℕ} (elim o as (λ y. Option ℕ) [ None ↦ Some OWN_BLOCKS | Some u ↦ find (λ b. not (has_holder (Begin g ∷ R) b)) (ring_after sh u) ]) (elim o as (λ y. Option ℕ) [ None ↦ Some OWN_BLOCKS | Some u ↦ find (λ b. not (has_holder R b)) (ring_after sh u) ])
     go None = refl
     go (Some u) = find_same _ _ (ring_after sh u) (free_same sh R g h e)
 
@@ -97,7 +97,7 @@ past_both sh R g hs is h e x = ap₂ (spot_past (Begin g ∷ R)) (next_same sh R
 
 by_same : (sh : Shape) (R : List Record) (g : BeginRecord) (need : ℕ) (o : Option ℕ) → AreAllowed sh R → g.txn ≡ suc (txn_count R) → spot_by sh (Begin g ∷ R) need o ≡ spot_by sh R need o
 by_same sh R g need None h e = past_both sh R g [] [] h e refl
-by_same sh R g need (Some u) h e = ap (λ (s : Spot). cond (ltb 4032 (undo_used R u + need)) s (Here (undo_end R u))) (past_both sh R g (holder_pairs (Begin g ∷ R) (ring_after sh u)) (holder_pairs R (ring_after sh u)) h e (pairs_same sh R g (ring_after sh u) h e))
+by_same sh R g need (Some u) h e = ap (λ (s : Spot). cond (ltb BLOCK_ROOM (undo_used R u + need)) s (Here (undo_end R u))) (past_both sh R g (holder_pairs (Begin g ∷ R) (ring_after sh u)) (holder_pairs R (ring_after sh u)) h e (pairs_same sh R g (ring_after sh u) h e))
 
 -- blocks
 
@@ -135,7 +135,7 @@ lacking_same sh R g bs h e = find_same _ _ bs (λ b. ap (λ (o : Option ℕ). is
 
 size_same : (R : List Record) (g : BeginRecord) (fs : List Fill) → fills_size (Begin g ∷ R) fs ≡ fills_size R fs
 size_same R g [] = refl
-size_same R g (f ∷ fs) = ap (λ n. (64 + length (image R f.at.dba f.at.slot).bytes) + n) (size_same R g fs)
+size_same R g (f ∷ fs) = ap (λ n. (UNDO_PART_SIZE + length (image R f.at.dba f.at.slot).bytes) + n) (size_same R g fs)
 
 place_same : (sh : Shape) (R : List Record) (g : BeginRecord) (b : ℕ) → AreAllowed sh R → g.txn ≡ suc (txn_count R) → free_place (Begin g ∷ R) b ≡ free_place R b
 place_same sh R g b h e = ap (λ (k : ℕ). record { dba = b; slot = k }) (slot_to_use_stays sh R g b h e)

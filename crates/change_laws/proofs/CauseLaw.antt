@@ -1,7 +1,7 @@
 -- What each cause excludes, and what tells it.
 use Rattle.std.proofs.Common.{◌≡◌, ◌≢◌, ◌⊎◌, ℕ, suc, ◌+◌, ◌<◌, Bool, true, false, cond, not, ◌&&◌, ◌||◌, ◌==◌, nat_lt, nat_le, if◌then◌else◌, List, [], ◌∷◌, length, map, is_none, MatchOption, Option, Some, None, refl, sym, ◌∙◌, ap, ap₂, subst, arith, inl, inr, true≢false, ne_eqb, le-ltb, ltb-false, leb-true, leb-false}
 use Rattle.seg_words.proofs.Lemmas.{cases_Bool, cond-true, and_left, and_right, or_parts, eqb-false}
-use Rattle.seg_words.specs.Types.{Shape, Kind, Row, Body, Rowid, Slot, ListEntry, By, is_spare, names, other_entry, made_entry, position_or_len}
+use Rattle.seg_words.specs.Types.{Shape, Kind, Row, Body, Rowid, Slot, ListEntry, By, is_spare, names, other_entry, made_entry, position_or_len, LIST_ENTRY_SIZE, MOST_LIST_ENTRIES}
 use Rattle.redo_model.specs.Records.{Record, RowBody}
 use Rattle.redo_model.specs.Model.{Step, is_active, ended_in, standing, newest_on, holds_row, row_bytes, image, row_in, entries_of, block_of, free_of, at_place, IsFreeFor, MayChangeRow, Enters, UpdateAllowed, MigrateAllowed, MigratePlain, MigrateAgain, ReturnAllowed, DeleteAllowed, number_or_zero, AreAllowed}
 use Rattle.redo_model.specs.AllowedRows.{migrates_plain, migrates_again, deletes_plain, deletes_migrated}
@@ -219,15 +219,15 @@ count_is : (es : List ListEntry) → length (map (λ (e : ListEntry). e.txn) es)
 count_is [] = refl
 count_is (e ∷ es) = ap (λ n. suc n) (count_is es)
 
-no_more_of : (sh : Shape) (R : List Record) (b : ℕ) → AreAllowed sh R → (nat_lt (length (entries_of R b)) 8 && nat_le 24 (free_of R b)) ≡ false → (length (txns_of R b) ≡ 8) ⊎ (free_of R b < 24)
-no_more_of sh R b h e = elim (cases_Bool (nat_lt (length (entries_of R b)) 8)) [
+no_more_of : (sh : Shape) (R : List Record) (b : ℕ) → AreAllowed sh R → (nat_lt (length (entries_of R b)) MOST_LIST_ENTRIES && nat_le LIST_ENTRY_SIZE (free_of R b)) ≡ false → (length (txns_of R b) ≡ MOST_LIST_ENTRIES) ⊎ (free_of R b < LIST_ENTRY_SIZE)
+no_more_of sh R b h e = elim (cases_Bool (nat_lt (length (entries_of R b)) MOST_LIST_ENTRIES)) [
   | inr f ↦
-      let l = ltb-false (length (entries_of R b)) 8 f in
+      let l = ltb-false (length (entries_of R b)) MOST_LIST_ENTRIES f in
       let m = (blocks_have_room sh R b h).entries_to in
       let n = entry_count_is R b in
       let c = count_is (entries_of R b) in
       inl (omega (arith, l, m, n, c))
-  | inl y ↦ inr (leb-false 24 (free_of R b) (sym (ap (λ v. v && nat_le 24 (free_of R b)) y) ∙ e))
+  | inl y ↦ inr (leb-false LIST_ENTRY_SIZE (free_of R b) (sym (ap (λ v. v && nat_le LIST_ENTRY_SIZE (free_of R b)) y) ∙ e))
 ]
 
 lacks_none : (sh : Shape) (R : List Record) (own : Option ℕ) (b : ℕ) → AreAllowed sh R → Strange own (entries_of R b) → is_none (other_entry (ended_in R) (block_of R b)) ≡ true → IsNoSlot R own b (txns_of R b)
@@ -237,7 +237,7 @@ lacks_none sh R own b h n e =
     record {
       named = refl;
       others = others_of R own (entries_of R b) s n;
-      no_more = no_more_of sh R b h (no_place (nat_lt (length (entries_of R b)) 8 && nat_le 24 (free_of R b)) (length (entries_of R b)) x.1);
+      no_more = no_more_of sh R b h (no_place (nat_lt (length (entries_of R b)) MOST_LIST_ENTRIES && nat_le LIST_ENTRY_SIZE (free_of R b)) (length (entries_of R b)) x.1);
     }
 
 spare_zero : (sh : Shape) (R : List Record) (b : ℕ) → AreAllowed sh R → is_none (other_entry (ended_in R) (block_of R b)) ≡ true → Strange None (entries_of R b)
@@ -267,14 +267,14 @@ strange_from R own (e ∷ es) o = (ne_eqb e.txn (number_or_zero own) o.0.1, stra
 never : (f : ListEntry → Bool) (es : List ListEntry) → Every (λ x. f x ≡ false) es → nat_lt (position_or_len f es) (length es) ≡ false
 never f es h = ap (λ n. nat_lt n (length es)) (none_place f es h) ∙ le-ltb (length es) (length es) (omega arith)
 
-none_made : (R : List Record) (b : ℕ) → (length (txns_of R b) ≡ 8) ⊎ (free_of R b < 24) → (nat_lt (length (entries_of R b)) 8 && nat_le 24 (free_of R b)) ≡ false
-none_made R b (inl e) = and_left (nat_lt (length (entries_of R b)) 8) _ (let c = count_is (entries_of R b) in le-ltb (length (entries_of R b)) 8 (omega (arith, e, c)))
-none_made R b (inr l) = and_right (nat_lt (length (entries_of R b)) 8) (nat_le 24 (free_of R b)) (past 24 (free_of R b) l)
+none_made : (R : List Record) (b : ℕ) → (length (txns_of R b) ≡ MOST_LIST_ENTRIES) ⊎ (free_of R b < LIST_ENTRY_SIZE) → (nat_lt (length (entries_of R b)) MOST_LIST_ENTRIES && nat_le LIST_ENTRY_SIZE (free_of R b)) ≡ false
+none_made R b (inl e) = and_left (nat_lt (length (entries_of R b)) MOST_LIST_ENTRIES) _ (let c = count_is (entries_of R b) in le-ltb (length (entries_of R b)) MOST_LIST_ENTRIES (omega (arith, e, c)))
+none_made R b (inr l) = and_right (nat_lt (length (entries_of R b)) MOST_LIST_ENTRIES) (nat_le LIST_ENTRY_SIZE (free_of R b)) (past LIST_ENTRY_SIZE (free_of R b) l)
   where
     past : (m n : ℕ) → n < m → nat_le m n ≡ false
     past m n l = elim (cases_Bool (nat_le m n)) [ inl y ↦ absurd (let k = leb-true m n y in omega (arith, k, l)) | inr f ↦ f ]
 
-other_none : (R : List Record) (b : ℕ) → Spares R (entries_of R b) → (length (txns_of R b) ≡ 8) ⊎ (free_of R b < 24) → is_none (other_entry (ended_in R) (block_of R b)) ≡ true
+other_none : (R : List Record) (b : ℕ) → Spares R (entries_of R b) → (length (txns_of R b) ≡ MOST_LIST_ENTRIES) ⊎ (free_of R b < LIST_ENTRY_SIZE) → is_none (other_entry (ended_in R) (block_of R b)) ≡ true
 other_none R b s m =
     ap (λ v. is_none (if v then Some (position_or_len (is_spare (ended_in R)) (entries_of R b)) else made_entry (ended_in R) (block_of R b))) (never (is_spare (ended_in R)) (entries_of R b) s)
     ∙ ap (λ v. is_none (if v then Some (length (entries_of R b)) else None)) (none_made R b m)

@@ -1,7 +1,7 @@
 -- A change may be made wherever its undo goes.
 use Rattle.std.proofs.Common.{◌≡◌, ℕ, zero, suc, ◌+◌, ◌≤◌, Bool, true, false, cond, List, [], ◌∷◌, length, find, MatchOption, option_map, is_none, Option, Some, None, refl, sym, ap, ap₂, subst, arith, true≢false}
 use Rattle.seg_words.proofs.Lemmas.{and_parts}
-use Rattle.seg_words.specs.Types.{Shape, Rowid, Slot, Block, Writer, By, At, UndoAddr, number_of_writer, as_told, is_empty, writer_has_ended, entry_size, takes_beside, fits_beside}
+use Rattle.seg_words.specs.Types.{Shape, Rowid, Slot, Block, Writer, By, At, UndoAddr, number_of_writer, as_told, is_empty, writer_has_ended, entry_size, takes_beside, fits_beside, BLOCK_ROOM, LONGEST_ROW, UNDO_PART_SIZE}
 use Rattle.redo_model.specs.Records.{Record, Insert, Update, Migrate, Return, Delete, Move, Reuse, RowPart, ReuseRecord}
 use Rattle.redo_model.specs.Model.{Step, row_step, move_step, ended_in, is_active, entry_of, image, block_of, standing, newest_on, holds_row, IsTable, IsRowBlock, pctfree_of, StatesUndo, MayChange, MayChangeRow, IsFreeFor, InsertAllowed, UpdateAllowed, MigrateAllowed, ReturnAllowed, DeleteAllowed, Enters, IsRowSize, number_or_zero, next_slot, AreAllowed}
 use Rattle.redo_model.specs.Effects.{Adds}
@@ -55,17 +55,17 @@ target_bare sh R b h = ap (λ (xs : List ℕ). length xs)
     ((all_have sh NoBytes bare_kept (bare_puts sh) R h).images b (next_slot R b)
     (and_parts (is_empty (image R b (next_slot R b)).kind) (writer_has_ended (ended_in R) (image R b (next_slot R b)).writer) (target_reusable R b)).0)
 
-row_short : (sh : Shape) (R : List Record) (p : Rowid) → AreAllowed sh R → length (image R p.dba p.slot).bytes ≤ 1800
+row_short : (sh : Shape) (R : List Record) (p : Rowid) → AreAllowed sh R → length (image R p.dba p.slot).bytes ≤ LONGEST_ROW
 row_short sh R p h = (blocks_have_room sh R p.dba h).rows p.slot
 
-one_small : (sh : Shape) (R : List Record) (p : Rowid) → AreAllowed sh R → (64 + length (image R p.dba p.slot).bytes) + 0 ≤ 4032
+one_small : (sh : Shape) (R : List Record) (p : Rowid) → AreAllowed sh R → (UNDO_PART_SIZE + length (image R p.dba p.slot).bytes) + 0 ≤ BLOCK_ROOM
 one_small sh R p h = let x = row_short sh R p h in omega (arith, x)
 
-two_small : (sh : Shape) (R : List Record) (p q : Rowid) → AreAllowed sh R → (64 + length (image R p.dba p.slot).bytes) + ((64 + length (image R q.dba q.slot).bytes) + 0) ≤ 4032
+two_small : (sh : Shape) (R : List Record) (p q : Rowid) → AreAllowed sh R → (UNDO_PART_SIZE + length (image R p.dba p.slot).bytes) + ((UNDO_PART_SIZE + length (image R q.dba q.slot).bytes) + 0) ≤ BLOCK_ROOM
 two_small sh R p q h = let x = row_short sh R p h in let y = row_short sh R q h in omega (arith, x, y)
 
 three_small : (sh : Shape) (R : List Record) (p q : Rowid) (b : ℕ) → AreAllowed sh R
-    → (64 + length (image R p.dba p.slot).bytes) + ((64 + length (image R q.dba q.slot).bytes) + ((64 + length (image R b (next_slot R b)).bytes) + 0)) ≤ 4032
+    → (UNDO_PART_SIZE + length (image R p.dba p.slot).bytes) + ((UNDO_PART_SIZE + length (image R q.dba q.slot).bytes) + ((UNDO_PART_SIZE + length (image R b (next_slot R b)).bytes) + 0)) ≤ BLOCK_ROOM
 three_small sh R p q b h = let x = row_short sh R p h in let y = row_short sh R q h in let z = target_bare sh R b h in omega (arith, x, y, z)
 
 -- entries
@@ -343,7 +343,7 @@ migrate_kind sh R t o n (Apart head body) b bytes a e m u =
       parts = refl;
     })
 
-migrate_small : (sh : Shape) (R : List Record) (n : ℕ) (x : Stand) (b : ℕ) (bytes : List ℕ) → AreAllowed sh R → fills_size R (migrate_fills n x (free_place R b) bytes) ≤ 4032
+migrate_small : (sh : Shape) (R : List Record) (n : ℕ) (x : Stand) (b : ℕ) (bytes : List ℕ) → AreAllowed sh R → fills_size R (migrate_fills n x (free_place R b) bytes) ≤ BLOCK_ROOM
 migrate_small sh R n (Whole p) b bytes h = two_small sh R p (free_place R b) h
 migrate_small sh R n (Apart head body) b bytes h = three_small sh R head body b h
 
@@ -389,7 +389,7 @@ delete_kind sh R t o n (Apart head body) a e m u =
       parts = refl;
     })
 
-delete_small : (sh : Shape) (R : List Record) (x : Stand) → AreAllowed sh R → fills_size R (delete_fills x) ≤ 4032
+delete_small : (sh : Shape) (R : List Record) (x : Stand) → AreAllowed sh R → fills_size R (delete_fills x) ≤ BLOCK_ROOM
 delete_small sh R (Whole p) h = one_small sh R p h
 delete_small sh R (Apart head body) h = two_small sh R head body h
 

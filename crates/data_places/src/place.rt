@@ -47,7 +47,7 @@ pub fn block_in(shape: &Shape, extent: u32, nth: u16) -> Option<Dba>
 /// How many data blocks the first extents of a table have.
 pub fn data_count(shape: &Shape, extents: u16) -> u32
     requires shape { is_shape shape.now ≡ true }
-    requires most { extents ≤ 900 }
+    requires most { extents ≤ MOST_EXTENTS }
     ensures value { result ≡ count_of shape.now extents }
     ensures most { result ≤ 57600 }
 {

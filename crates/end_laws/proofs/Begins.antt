@@ -1,6 +1,6 @@
 -- The entry that the transaction table uses next is the one that a Begin takes.
 use Rattle.std.proofs.Common.{◌≡◌, ◌⊎◌, ℕ, suc, ◌<◌, ◌≤◌, Bool, true, false, cond, List, [], ◌∷◌, length, Option, Some, None, refl, sym, ◌∙◌, ap, subst, arith, inl, inr, true≢false}
-use Rattle.seg_words.specs.Types.{Shape}
+use Rattle.seg_words.specs.Types.{Shape, TXN_ENTRIES}
 use Rattle.redo_model.specs.Records.{Record, Begin}
 use Rattle.redo_model.specs.Model.{txn_count, is_active, user_of, commit_number, control_number, last_undo, EntryState, state_of_user, entry_state, state_when_over, TakesEntry}
 use Rattle.redo_model.specs.AllowedTransactions.{Unused, InUse, Committed, RolledBack, takes_unused, takes_rolled_back, takes_committed}
@@ -67,16 +67,16 @@ committed_from R (Some t) c e =
     over None x = absurd (let z : RolledBack ≡ Committed c = x in cc)
     over (Some d) x = let z : d ≡ c = (let y : Committed d ≡ Committed c = x in cc) in ap (λ (n : ℕ). Some n) z
 
-none_unused : (R : List Record) (p : TxnTable) (n : ℕ) → HoldsTable R p → n ≤ 96 → NoneBelow is_unused p.entries n → model.NoneBelow R n model.is_unused
+none_unused : (R : List Record) (p : TxnTable) (n : ℕ) → HoldsTable R p → n ≤ TXN_ENTRIES → NoneBelow is_unused p.entries n → model.NoneBelow R n model.is_unused
 none_unused R p n h l f = λ j m. sym (both R (user_of R j)).0 ∙ ap is_unused (sym (h.entries j (omega arith))) ∙ f j m
 
-none_rolled : (R : List Record) (p : TxnTable) (n : ℕ) → HoldsTable R p → n ≤ 96 → NoneBelow is_rolled_back p.entries n → model.NoneBelow R n model.is_rolled_back
+none_rolled : (R : List Record) (p : TxnTable) (n : ℕ) → HoldsTable R p → n ≤ TXN_ENTRIES → NoneBelow is_rolled_back p.entries n → model.NoneBelow R n model.is_rolled_back
 none_rolled R p n h l f = λ j m. sym (both R (user_of R j)).1 ∙ ap is_rolled_back (sym (h.entries j (omega arith))) ∙ f j m
 
 -- the entry that the table tells is the one that a Begin takes
 pub takes_next : (R : List Record) (p : TxnTable) (i control : ℕ) → HoldsTable R p → TakesNext p.entries p.control (Some (i, control)) → TakesEntry R i control
 takes_next R p i control h (inl u) =
-    let w : i < 96 = (let c = h.count in let x = u.within in omega (arith, c, x)) in
+    let w : i < TXN_ENTRIES = (let c = h.count in let x = u.within in omega (arith, c, x)) in
     takes_unused (record {
       within = w;
       unused = unused_is _ (sym (both R (user_of R i)).0 ∙ ap is_unused (sym (h.entries i w)) ∙ u.unused);
@@ -84,20 +84,20 @@ takes_next R p i control h (inl u) =
       control_stays = u.control_stays ∙ h.control;
     })
 takes_next R p i control h (inr (inl u)) =
-    let w : i < 96 = (let c = h.count in let x = u.within in omega (arith, c, x)) in
+    let w : i < TXN_ENTRIES = (let c = h.count in let x = u.within in omega (arith, c, x)) in
     takes_rolled_back (record {
       within = w;
-      no_unused = none_unused R p 96 h (omega arith) (subst (λ n. NoneBelow is_unused p.entries n) h.count u.no_unused);
+      no_unused = none_unused R p TXN_ENTRIES h (omega arith) (subst (λ n. NoneBelow is_unused p.entries n) h.count u.no_unused);
       rolled_back = rolled_is _ (sym (both R (user_of R i)).1 ∙ ap is_rolled_back (sym (h.entries i w)) ∙ u.rolled_back);
       least = none_rolled R p i h (omega (arith, w)) u.least;
       control_stays = u.control_stays ∙ h.control;
     })
 takes_next R p i control h (inr (inr u)) =
-    let w : i < 96 = (let c = h.count in let x = u.within in omega (arith, c, x)) in
+    let w : i < TXN_ENTRIES = (let c = h.count in let x = u.within in omega (arith, c, x)) in
     takes_committed (record {
       within = w;
-      no_unused = none_unused R p 96 h (omega arith) (subst (λ n. NoneBelow is_unused p.entries n) h.count u.no_unused);
-      no_rolled_back = none_rolled R p 96 h (omega arith) (subst (λ n. NoneBelow is_rolled_back p.entries n) h.count u.no_rolled_back);
+      no_unused = none_unused R p TXN_ENTRIES h (omega arith) (subst (λ n. NoneBelow is_unused p.entries n) h.count u.no_unused);
+      no_rolled_back = none_rolled R p TXN_ENTRIES h (omega arith) (subst (λ n. NoneBelow is_rolled_back p.entries n) h.count u.no_rolled_back);
       committed = committed_to R (user_of R i) control (ap committed (sym (h.entries i w)) ∙ u.number);
       least = λ j c m e. u.least j c (subst (λ n. j < n) (sym h.count) m) (ap committed (h.entries j m) ∙ committed_from R (user_of R j) c e);
     })

@@ -3,7 +3,7 @@ use Rattle.std.proofs.Common.{◌≡◌, ℕ, zero, suc, ◌+◌, ◌-◌, ◌*�
 use Rattle.std.proofs.lemmas.List.Sums.{position_or_len_is}
 use Rattle.std.proofs.lemmas.Nat.{div-mul-add}
 use Rattle.seg_words.proofs.Lemmas.{cases_Bool, cond-true, cond-false}
-use Rattle.seg_words.specs.Types.{Shape, UndoAddr, UndoPlace, ListEntry, By, names, entry_for, first_block, new_entry, position_or_len, is_shape}
+use Rattle.seg_words.specs.Types.{Shape, UndoAddr, UndoPlace, ListEntry, By, names, entry_for, first_block, new_entry, position_or_len, is_shape, OWN_BLOCKS, LEAST_UNDO_BLOCKS}
 use Rattle.redo_model.specs.Records.{Record, Reuse, Insert, Update, Migrate, Return, Delete, Move, RowPart, RowBody, MoveRecord}
 use Rattle.redo_model.specs.Model.{Step, Effect, effect_of, row_step, is_active, is_by, is_addr, standing, standing_steps, newest_of, undo_of_step, without_step, place_of_undo, IsTable, IsRowBlock, data_blocks, high_mark, under_high, has_extent, extents_of, entries_of, entry, entry_count, block_of, HeldPart, undo_held, undo_parts, undo_used, undo_sequence, current_undo, part_size, held_at, MigrateAllowed, DeleteAllowed, MoveAllowed, IsKindAllowed, AreAllowed}
 use Rattle.redo_model.specs.Effects.{Still, Formats, Adds, TakesBack, Cleans}
@@ -30,8 +30,8 @@ use Rattle.end_laws.specs.Backing.{held_of, PartTold, extent_number, IsInExtent,
 -- ---- each standing step's undo block is in use, and the step has 1 to 3 parts
 
 record StepFew (sh : Shape) (st : Step) : Type 0 where
-  from : 37 ≤ st.undo.block
-  to : st.undo.block < 37 + sh.undo
+  from : OWN_BLOCKS ≤ st.undo.block
+  to : st.undo.block < OWN_BLOCKS + sh.undo
   used : 1 ≤ st.undo.seq
   least : 1 ≤ length st.parts
   most : length st.parts ≤ 3
@@ -79,7 +79,7 @@ few sh R (Delete w) a = delete_few sh R w a
 few sh R (Move m) a = move_few sh R m a
 few sh R _ a = tt
 
-few_effect : (sh : Shape) (R : List Record) (e : Effect) → 2 ≤ sh.undo → AreAllowed sh R → EffectBasics R e → EffectFew e → Every (StepFew sh) (standing R) → Every (StepFew sh) (standing_steps e (standing R))
+few_effect : (sh : Shape) (R : List Record) (e : Effect) → LEAST_UNDO_BLOCKS ≤ sh.undo → AreAllowed sh R → EffectBasics R e → EffectFew e → Every (StepFew sh) (standing R) → Every (StepFew sh) (standing_steps e (standing R))
 few_effect sh R Still two h b f k = k
 few_effect sh R (Formats d) two h b f k = k
 few_effect sh R (Adds st) two h b f k =
@@ -90,7 +90,7 @@ few_effect sh R (Adds st) two h b f k =
 few_effect sh R (TakesBack t) two h b f k = every-filter _ _ (standing R) k
 few_effect sh R (Cleans d cs) two h b f k = k
 
-steps_few : (sh : Shape) (R : List Record) → 2 ≤ sh.undo → AreAllowed sh R → Every (StepFew sh) (standing R)
+steps_few : (sh : Shape) (R : List Record) → LEAST_UNDO_BLOCKS ≤ sh.undo → AreAllowed sh R → Every (StepFew sh) (standing R)
 steps_few sh [] two h = tt
 steps_few sh (r ∷ R) two h = few_effect sh R (effect_of r) two h.0 (basics sh R r h.1.kind) (few sh R r h.1.kind) (steps_few sh R two h.0)
 
@@ -136,7 +136,7 @@ entry_used ended R b t place l n f =
 
 number_is : (sh : Shape) (x b : ℕ) → first_block sh x ≤ b → b < first_block sh x + sh.extent → extent_number sh b ≡ x
 number_is sh x b from to =
-    let split : b - (37 + sh.undo) ≡ x * sh.extent + (b - first_block sh x) = omega (arith, from) in
+    let split : b - (OWN_BLOCKS + sh.undo) ≡ x * sh.extent + (b - first_block sh x) = omega (arith, from) in
     ap (λ (n : ℕ). n / sh.extent) split ∙ div-mul-add x sh.extent (b - first_block sh x) (omega (arith, from, to))
 
 in_extent : (sh : Shape) (R : List Record) (o : ℕ) (ps : List RowPart) → 1 ≤ length ps → EachPart (λ p. IsRowBlock sh R o p.dba) ps → IsInExtent sh R o ps

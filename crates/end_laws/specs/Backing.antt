@@ -1,7 +1,7 @@
 -- What a step of a rollback finds: all that its record states stands in the undo of the record that it takes back, in that
 -- record's row blocks, and in the headers of tables.
 use Rattle.std.specs.Prelude.{◌≡◌, ℕ, ◌+◌, ◌-◌, ◌/◌, ◌<◌, ◌≤◌, Bool, true, List, [], ◌∷◌, length, slice_get, Option, Some, None}
-use Rattle.seg_words.specs.Types.{Shape, UndoAddr, UndoPlace, By, entry_for, is_shape, OWN_BLOCKS}
+use Rattle.seg_words.specs.Types.{Shape, UndoAddr, UndoPlace, By, entry_for, is_shape, OWN_BLOCKS, MOST_UNDO_PARTS}
 use Rattle.redo_model.specs.Records.{Record, RowPart}
 use Rattle.redo_model.specs.Model.{Step, is_active, standing, newest_of, undo_of_step, without_step, has_extent, extents_of, IsTable, IsRowBlock, block_of, HeldPart, undo_held, undo_sequence, held_at, AreAllowed}
 use Rattle.back_laws.specs.Backs.{FirstShows}
@@ -40,7 +40,7 @@ pub record BackTold (sh : Shape) (R : List Record) (t : ℕ) (st : Step) : Type 
   pub in_use : IsInUse sh R st.undo.block
   pub least : 1 ≤ length st.parts
   pub most : length st.parts ≤ 3
-  pub place : st.undo.nth < 63
+  pub place : st.undo.nth < MOST_UNDO_PARTS
   pub part : (i : ℕ) (p : RowPart) → slice_get st.parts i ≡ Some p → PartTold sh R t st i p
   pub table : IsTable R st.obj
   pub extent : IsInExtent sh R st.obj st.parts

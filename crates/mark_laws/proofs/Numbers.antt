@@ -1,7 +1,7 @@
 -- The least number with a property, and the least free extent.
 use Rattle.std.proofs.Common.{◌≡◌, ℕ, zero, suc, ◌+◌, ◌*◌, ◌<◌, ◌≤◌, Bool, true, false, not, eqb, List, Option, Some, None, refl, sym, ◌∙◌, subst, arith, inl, inr, eqb-true, true≢false, leb-true}
 use Rattle.seg_words.proofs.Lemmas.{cond-true, cond-false, cases_Bool, and_parts, eqb-false}
-use Rattle.seg_words.specs.Types.{Shape, first_block, is_extent, is_shape}
+use Rattle.seg_words.specs.Types.{Shape, first_block, is_extent, is_shape, MOST_TABLES}
 use Rattle.redo_model.specs.Records.{Record}
 use Rattle.redo_model.specs.Model.{is_taken, is_free_extent, IsLeastFree}
 use Rattle.redo_laws.proofs.lists.Bools.{off}
@@ -74,7 +74,7 @@ grows x (suc n) l = omega arith
 -- a free extent has a number below the count of blocks
 free_below : (sh : Shape) (R : List Record) (x : ℕ) → is_shape sh ≡ true → is_free_extent sh R x ≡ true → x < sh.blocks
 free_below sh R x s h =
-    let whole = leb-true (first_block sh x + sh.extent) sh.blocks (and_parts (is_extent sh x) (not (is_taken R 32 x)) h).0 in
+    let whole = leb-true (first_block sh x + sh.extent) sh.blocks (and_parts (is_extent sh x) (not (is_taken R MOST_TABLES x)) h).0 in
     let from = (limits sh s).extent_from in
     let up = grows x sh.extent (omega (arith, from)) in
     omega (arith, whole, from, up)

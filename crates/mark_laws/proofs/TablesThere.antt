@@ -1,7 +1,7 @@
 -- What is there of a table: an extent from its Table and first Extend on, and nothing before.
 use Rattle.std.proofs.Common.{◌≡◌, ℕ, zero, suc, ◌+◌, ◌≤◌, Bool, true, false, cond, not, ◌&&◌, ◌||◌, eqb, List, [], ◌∷◌, length, take, refl, sym, ◌∙◌, ap, subst, arith, inl, inr, eqb-true, true≢false, length-append}
 use Rattle.seg_words.proofs.Lemmas.{cond-true, cond-false, cases_Bool, eqb-false}
-use Rattle.seg_words.specs.Types.{Shape, is_extent}
+use Rattle.seg_words.specs.Types.{Shape, is_extent, MOST_TABLES}
 use Rattle.redo_model.specs.Records.{Record, Table, Movement, Extend, FormatBlock, Class, Advance, Lower, Begin, Reuse, Insert, Update, Migrate, Return, Delete, Commit, Back, Ended, Move, Clean, TableRecord}
 use Rattle.redo_model.specs.Model.{Extent, extents_of, table_count, IsTable, has_extent, is_taken, is_free_extent, IsLeastFree, IsKindAllowed, IsCalledFor, IsAllowed, AreAllowed, is_whole}
 use Rattle.redo_laws.proofs.lists.Bools.{off}
@@ -120,7 +120,7 @@ taken_table t R zero x = refl
 taken_table t R (suc n) x = ap (λ (b : Bool). has_extent (extents_of R (suc n)) x || b) (taken_table t R n x)
 
 free_table : (sh : Shape) (t : TableRecord) (R : List Record) (x : ℕ) → is_free_extent sh (Table t ∷ R) x ≡ is_free_extent sh R x
-free_table sh t R x = ap (λ (b : Bool). is_extent sh x && not b) (taken_table t R 32 x)
+free_table sh t R x = ap (λ (b : Bool). is_extent sh x && not b) (taken_table t R MOST_TABLES x)
 
 pub least_after : (sh : Shape) (t : TableRecord) (R : List Record) (x : ℕ) → IsLeastFree sh R x → IsLeastFree sh (Table t ∷ R) x
 least_after sh t R x a = record { free = free_table sh t R x ∙ a.free; least = λ y lt. free_table sh t R y ∙ a.least y lt }

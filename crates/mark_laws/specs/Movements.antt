@@ -45,7 +45,7 @@ pub record MayAdvance (sh : Shape) (R : List Record) (o : ℕ) : Type 0 where
 
 pub record MayExtend (sh : Shape) (R : List Record) (o x : ℕ) : Type 0 where
   pub full : IsFull sh R o
-  pub few : length (extents_of R o) < 900
+  pub few : length (extents_of R o) < MOST_EXTENTS
   pub extent : IsLeastFree sh R x
 
 -- when a movement is the next one, each apart
@@ -56,7 +56,7 @@ IsNextMark sh R o (step.Extend x) = MayExtend sh R o x
 
 -- the table has 900 extents, or none is free
 abbrev pub HasNoExtent : Shape → List Record → ℕ → Type 0
-HasNoExtent sh R o = (length (extents_of R o) ≡ 900) ⊎ ((x : ℕ) → is_free_extent sh R x ≡ false)
+HasNoExtent sh R o = (length (extents_of R o) ≡ MOST_EXTENTS) ⊎ ((x : ℕ) → is_free_extent sh R x ≡ false)
 
 pub record NoMark (sh : Shape) (R : List Record) (o : ℕ) : Type 0 where
   pub full : IsFull sh R o

@@ -1,6 +1,6 @@
 -- The records of tables and marks are allowed where their movement is the next one, and no others are.
 use Rattle.std.specs.Prelude.{◌≡◌, ℕ, ◌<◌, ◌≤◌, Bool, true, false, eqb, List, ◌∷◌, Some, None}
-use Rattle.seg_words.specs.Types.{Shape, is_name, is_shape}
+use Rattle.seg_words.specs.Types.{Shape, is_name, is_shape, MOST_PCTFREE, MOST_TABLES}
 use Rattle.redo_model.specs.Records.{Record, Table, Movement, Extend, FormatBlock, Advance, TableRecord, MovementRecord}
 use Rattle.redo_model.specs.Model.{IsTable, table_count, table_named, IsAllowed, IsLawful}
 use Rattle.mark_laws.specs.declared.step.MarkStep.{MarkStep}
@@ -33,8 +33,8 @@ MarksAreAllowed = (sh : Shape) (R : List Record) (o : ℕ) → is_shape sh ≡ t
 pub record MayMake (R : List Record) (name : List ℕ) (percent : ℕ) : Type 0 where
   pub named : is_name name ≡ true
   pub new_name : table_named R name ≡ None
-  pub few : table_count R < 32
-  pub pctfree : percent ≤ 50
+  pub few : table_count R < MOST_TABLES
+  pub pctfree : percent ≤ MOST_PCTFREE
 
 -- both its records, one after the other
 pub record MakesTable (sh : Shape) (R : List Record) (name : List ℕ) (pctfree x : ℕ) : Type 0 where

@@ -1,13 +1,13 @@
 -- What is there of a table in a lawful list, and what the codes of its blocks tell.
 use Rattle.std.specs.Prelude.{◌≡◌, ℕ, suc, ◌<◌, ◌≤◌, true, false, List, length, drop, slice_get, Option, Some, None}
-use Rattle.seg_words.specs.Types.{Shape, is_extent, class_code}
+use Rattle.seg_words.specs.Types.{Shape, is_extent, class_code, MOST_EXTENTS}
 use Rattle.redo_model.specs.Records.{Record}
 use Rattle.redo_model.specs.Model.{extents_of, data_blocks, has_extent, is_formatted, under_high, low_mark, high_mark, first_unformatted, kept_class, code_of, IsTable, IsLawful, AreAllowed}
 
 -- the table has an extent, at most 900, and each is a whole one of the store
 pub record HasExtents (sh : Shape) (R : List Record) (o : ℕ) : Type 0 where
   pub one : 1 ≤ length (extents_of R o)
-  pub few : length (extents_of R o) ≤ 900
+  pub few : length (extents_of R o) ≤ MOST_EXTENTS
   pub whole : (x : ℕ) → has_extent (extents_of R o) x ≡ true → is_extent sh x ≡ true
 
 abbrev pub TablesHaveExtents : Type 0

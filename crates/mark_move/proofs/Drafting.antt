@@ -1,7 +1,7 @@
 -- What is drafted from pages is what the list drafts.
 use Rattle.std.proofs.Common.{◌≡◌, ℕ, zero, suc, ◌+◌, ◌<◌, ◌≤◌, min, Bool, true, false, cond, ltb, List, [], ◌∷◌, ◌++◌, length, Option, Some, None, refl, sym, ◌∙◌, ap, ap₂, subst, arith, inl, inr, leb-true, ltb-true, le-ltb, lt-ltb, eq-eqb, eqb, true≢false}
 use Rattle.seg_words.proofs.Lemmas.{cond-true, cond-false, cases_Bool, or_left, or_right}
-use Rattle.seg_words.specs.Types.{Shape, first_block, is_extent}
+use Rattle.seg_words.specs.Types.{Shape, first_block, is_extent, ADVANCE_BLOCKS}
 use Rattle.redo_model.specs.Records.{Record, AdvanceRecord, ExtendRecord}
 use Rattle.redo_model.specs.Model.{Extent, extents_of, extent_at, block_in, has_extent, header_of, l2_of, l3_of, group_start, data_blocks, high_mark}
 use Rattle.mark_laws.specs.Drafts.{drafted_advance, drafted_extend, with_extent}
@@ -14,11 +14,11 @@ use Rattle.segment_read.specs.Segments.{IsSegment, number_at}
 
 -- an Advance
 
-pub advance_says : (sh : Shape) (R : List Record) (o : ℕ) (s : Segment) (count high : ℕ) → count ≡ data_count sh s.extents → high ≡ min (s.high + 16) count → IsSegment sh R o s
+pub advance_says : (sh : Shape) (R : List Record) (o : ℕ) (s : Segment) (count high : ℕ) → count ≡ data_count sh s.extents → high ≡ min (s.high + ADVANCE_BLOCKS) count → IsSegment sh R o s
     → ◌≡◌ {A = AdvanceRecord} (record { obj = s.obj; header = s.header; low = s.high; high = high }) (drafted_advance sh R o)
 advance_says sh R o s count high c h is =
     let all : count ≡ length (data_blocks sh R o) = c ∙ ap (data_count sh) is.extents ∙ sym (counts_are_told sh (extents_of R o)) in
-    advance_same _ (drafted_advance sh R o) is.obj is.header is.high (h ∙ ap₂ (λ x y. min (x + 16) y) is.high all)
+    advance_same _ (drafted_advance sh R o) is.obj is.header is.high (h ∙ ap₂ (λ x y. min (x + ADVANCE_BLOCKS) y) is.high all)
 
 -- blocks of extents
 

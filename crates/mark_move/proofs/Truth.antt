@@ -1,7 +1,7 @@
 -- What the pages of a lawful list say, by the laws on them, and that their blocks have pages.
 use Rattle.std.proofs.Common.{◌≡◌, ℕ, zero, suc, Bool, ◌+◌, ◌<◌, ◌≤◌, true, false, not, ◌&&◌, ◌||◌, eqb, nat_lt, List, [], ◌∷◌, length, Option, Some, None, refl, sym, ◌∙◌, ap, subst, arith, lt-ltb, ne_eqb}
 use Rattle.seg_words.proofs.Lemmas.{and_from, and_parts, or_left, or_right}
-use Rattle.seg_words.specs.Types.{Shape, is_shape, is_extent}
+use Rattle.seg_words.specs.Types.{Shape, is_shape, is_extent, MOST_TABLES, OWN_BLOCKS}
 use Rattle.redo_model.specs.Records.{Record, Movement}
 use Rattle.redo_model.specs.Model.{Extent, extents_of, extent_at, header_of, index_of, is_taken, IsTable, IsLawful}
 use Rattle.redo_laws.proofs.numbers.Bounds.{limits}
@@ -38,7 +38,7 @@ first_of : (es : List Extent) → 1 ≤ length es → (e : Extent) × (extent_at
 first_of [] l = absurd (omega (arith, l))
 first_of (e ∷ es) l = (e, refl)
 
-page_when : (sh : Shape) (d : ℕ) → 37 ≤ d → d < sh.blocks → has_page sh d ≡ true
+page_when : (sh : Shape) (d : ℕ) → OWN_BLOCKS ≤ d → d < sh.blocks → has_page sh d ≡ true
 page_when sh d l u = and_from _ _ (and_from _ _ (lt-ltb d sh.blocks u) (ap not (ne_eqb d 0 (λ e. omega (arith, e, l))))) (or_right (nat_lt d 4) _ (lt-ltb 36 d (omega (arith, l))))
 
 pub header_has : (sh : Shape) (R : List Record) (o : ℕ) → is_shape sh ≡ true → IsLawful sh R → IsTable R o → has_page sh (header_of sh (extents_of R o)) ≡ true
@@ -101,7 +101,7 @@ index_within sh R o b s h t m =
 
 -- an extent that is taken next is a whole one
 pub extent_whole : (sh : Shape) (R : List Record) (o x : ℕ) → is_shape sh ≡ true → IsLawful sh R → IsTable R o → next_mark sh R o ≡ Some (step.Extend x) → is_extent sh x ≡ true
-extent_whole sh R o x s h t m = (and_parts (is_extent sh x) (not (is_taken R 32 x)) ((next_marks_mean sh R o s h.allowed t).is (step.Extend x) m).extent.free).0
+extent_whole sh R o x s h t m = (and_parts (is_extent sh x) (not (is_taken R MOST_TABLES x)) ((next_marks_mean sh R o s h.allowed t).is (step.Extend x) m).extent.free).0
 
 -- the list with the record
 pub mark_lawful : (sh : Shape) (R : List Record) (o : ℕ) (m : MarkStep) → is_shape sh ≡ true → IsLawful sh R → IsTable R o → next_mark sh R o ≡ Some m → IsLawful sh (mark_record sh R o m ∷ R)

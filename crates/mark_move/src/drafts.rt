@@ -1,6 +1,6 @@
 // The records of tables and marks, drafted from what the pages say.
 ghost use Rattle.std.specs.Prelude.{ℕ, ◌≡◌, ◌≤◌, ◌<◌, ◌+◌, min, true, List, length, IfOk, IsOk, Some};
-ghost use Rattle.seg_words.specs.Types.{Shape as TheShape, is_extent, is_shape};
+ghost use Rattle.seg_words.specs.Types.{Shape as TheShape, is_extent, is_shape, MOST_EXTENTS};
 ghost use Rattle.redo_model.specs.Records.{Record};
 ghost use Rattle.redo_model.specs.Model.{block_in as nth_block, extent_at, extents_of, group_start as start_of, index_of, table_count};
 ghost use Rattle.page_fit.specs.Headers.{SaysHeader};
@@ -28,7 +28,7 @@ pub fn draft_movement(segment: &Segment, on: bool) -> MovementRecord
 /// The high mark after it moved up, by at most 16 of so many data blocks.
 fn next_high(high: u32, count: u32) -> u32
     requires { count ≤ 57600 }
-    ensures { result ≡ min (high + 16) count }
+    ensures { result ≡ min (high + ADVANCE_BLOCKS) count }
 {
     if high >= count {
         return count;
@@ -39,7 +39,7 @@ fn next_high(high: u32, count: u32) -> u32
 /// The marks moved up: the low one to the high one, and that by at most 16 of the table's data blocks.
 pub fn draft_advance(segment: &Segment, shape: &Shape) -> AdvanceRecord
     requires shape { is_shape shape.now ≡ true }
-    requires few { segment.now.extents ≤ 900 }
+    requires few { segment.now.extents ≤ MOST_EXTENTS }
     ensures { (R : List Record) (o : ℕ) → IsSegment shape.now R o segment.now → result ≡ drafted_advance shape.now R o }
 {
     let count = data_count(shape, segment.extents);

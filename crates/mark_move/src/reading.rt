@@ -1,6 +1,6 @@
 // What a store says of a table's segment.
 ghost use Rattle.std.specs.Prelude.{ℕ, ◌≡◌, ◌≤◌, ◌<◌, true, None, List, length, IfOk, IfErr, IsOk, Err};
-ghost use Rattle.seg_words.specs.Types.{is_shape};
+ghost use Rattle.seg_words.specs.Types.{is_shape, MOST_EXTENTS};
 ghost use Rattle.redo_model.specs.Records.{Record};
 ghost use Rattle.redo_model.specs.Model.{IsTable, extents_of, header_of, table_count};
 ghost use Rattle.mark_laws.specs.Movements.{least_free};
@@ -29,7 +29,7 @@ fn told_segment<D: Disk>(store: &Store<D>, header: Dba) -> Result<Segment, Wrong
     requires { IsFetched header store.now }
     ensures says { (R : List Record) (o : ℕ) → IsTrue D.meaning R store.now → IsTable R o → header ≡ header_of store.now.shape (extents_of R o) → IfOk result (IsSegment store.now.shape R o) }
     ensures right { (R : List Record) (o : ℕ) → IsTrue D.meaning R store.now → IsTable R o → header ≡ header_of store.now.shape (extents_of R o) → IsOk result }
-    ensures most { IfOk result (λ s. s.extents ≤ 900) }
+    ensures most { IfOk result (λ s. s.extents ≤ MOST_EXTENTS) }
 {
     segment_in(store.frame(header), header)
 }
@@ -70,7 +70,7 @@ fn segment_at<D: Disk>(store: &mut Store<D>, header: Dba) -> Result<Segment, Sto
     ensures looked { HasLooked D.meaning store.old store.new result }
     ensures says { (R : List Record) (o : ℕ) → IsTrue D.meaning R store.old → IsTable R o → header ≡ header_of store.old.shape (extents_of R o) → IfOk result (IsSegment store.old.shape R o) }
     ensures sound { (R : List Record) (o : ℕ) → IsTrue D.meaning R store.old → IsTable R o → header ≡ header_of store.old.shape (extents_of R o) → store.old.fault ≡ None → IfErr result IsSoundFault }
-    ensures most { IfOk result (λ s. s.extents ≤ 900) }
+    ensures most { IfOk result (λ s. s.extents ≤ MOST_EXTENTS) }
 {
     match store.fetch(header) {
         Ok(()) => {}
@@ -87,7 +87,7 @@ pub fn read_segment<D: Disk>(store: &mut Store<D>, obj: Obj) -> Result<Segment, 
     ensures looked { HasLooked D.meaning store.old store.new result }
     ensures says { (R : List Record) → IsTrue D.meaning R store.old → IsTable R obj → IfOk result (IsSegment store.old.shape R obj) }
     ensures sound { (R : List Record) → IsTrue D.meaning R store.old → IsTable R obj → store.old.fault ≡ None → IfErr result IsSoundFault }
-    ensures most { IfOk result (λ s. s.extents ≤ 900) }
+    ensures most { IfOk result (λ s. s.extents ≤ MOST_EXTENTS) }
 {
     match find_header(store, obj) {
         Ok(header) => segment_at(store, header),

@@ -1,6 +1,6 @@
 // The record of each movement of the marks, drafted from the pages of a store.
 ghost use Rattle.std.specs.Prelude.{ℕ, ◌≡◌, ◌≤◌, ◌<◌, true, None, List, length, Some, IfOk, IfErr, IsOk};
-ghost use Rattle.seg_words.specs.Types.{is_extent, is_shape};
+ghost use Rattle.seg_words.specs.Types.{is_extent, is_shape, MOST_EXTENTS};
 ghost use Rattle.redo_model.specs.Records.{Extend as ExtendOf, FormatBlock as FormatOf, Record};
 ghost use Rattle.redo_model.specs.Model.{IsTable, extents_of, index_of};
 ghost use Rattle.mark_laws.specs.Drafts.{drafted_extend, drafted_format, mark_record};
@@ -95,7 +95,7 @@ fn record_of<D: Disk>(
     step: MarkStep,
 ) -> Result<Record, StoreFault>
     requires shape { is_shape shape.now ≡ true }
-    requires few { segment.now.extents ≤ 900 }
+    requires few { segment.now.extents ≤ MOST_EXTENTS }
     ensures looked { store.old.fault ≡ None → HasLooked D.meaning store.old store.new result }
     ensures says { (R : List Record) (o : ℕ) → IsTrue D.meaning R store.old → IsTable R o → shape.now ≡ store.old.shape → IsSegment shape.now R o segment.now → IfOk result (λ r. r ≡ mark_record shape.now R o step) }
     ensures sound { (R : List Record) (o : ℕ) → IsTrue D.meaning R store.old → IsTable R o → shape.now ≡ store.old.shape → IsSegment shape.now R o segment.now → next_mark shape.now R o ≡ Some step → store.old.fault ≡ None → IfErr result IsSoundFault }

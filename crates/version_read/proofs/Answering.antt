@@ -1,7 +1,7 @@
 -- The answers: what an image shows that stands in a slot, and where the part at an address leads.
 use Rattle.std.proofs.Common.{◌≡◌, ℕ, ◌+◌, ◌*◌, ◌<◌, ◌≤◌, Bool, true, false, cond, if◌then◌else◌, nat_lt, length, get_or, eqb, List, Option, Some, None, MatchOption, sym, ◌∙◌, ap, subst, arith, inl, inr, eqb-true, eq-eqb, ltb-true, lt-ltb}
 use Rattle.seg_words.proofs.Lemmas.{cond-true, cond-false, cases_Bool, eqb-false}
-use Rattle.seg_words.specs.Types.{Shape, Slot, UndoAddr, Block, new_slot}
+use Rattle.seg_words.specs.Types.{Shape, Slot, UndoAddr, Block, new_slot, MOST_UNDO_PARTS}
 use Rattle.redo_model.specs.Records.{Record}
 use Rattle.redo_model.specs.Model.{holds_row, image as image_in, slot_count, undo_held, image_at as image_seen, commit_count}
 use Rattle.undo_block.specs.Types.{UndoPage}
@@ -24,7 +24,7 @@ use Rattle.version_read.specs.declared.chain.Next.TheVariants as next
 
 -- ---- look
 
-looked : (sh : Shape) (R : List Record) (b k s : ℕ) (own : Option ℕ) (i : Slot) (x : Tells) (v : Version) → EndAt sh R b k s (txn_or_none own) 0 (63 * sh.undo) i x → Looks x i v → Shows sh R b k s own v
+looked : (sh : Shape) (R : List Record) (b k s : ℕ) (own : Option ℕ) (i : Slot) (x : Tells) (v : Version) → EndAt sh R b k s (txn_or_none own) 0 (MOST_UNDO_PARTS * sh.undo) i x → Looks x i v → Shows sh R b k s own v
 looked sh R b k s own i Counts (version.Row r) e l = sees_row R b k s (txn_or_none own) r.now (e ∙ ap (λ (j : Slot). Found j) (sym l.0)) (ap (λ (j : Slot). holds_row j.kind) l.0 ∙ l.1)
 looked sh R b k s own i Counts version.Nothing e l = sees_none R b k s (txn_or_none own) i e l
 looked sh R b k s own i Counts (version.Step a) e l = absurd l
@@ -41,7 +41,7 @@ looked sh R b k s own i (Unknown t) (version.TooOldEntry u) e l = is_refused_ent
 pub slot_shows : (p : TxnTable) (s : ℕ) (own : Option ℕ) (i : Slot) (v : Version) → Looks (tells p s own i.writer) i v → (sh : Shape) (R : List Record) (b k : ℕ) → IsReader sh R own → HoldsTable R p → i ≡ image_in R b k → Shows sh R b k s own v
 slot_shows p s own i v l sh R b k h t e =
     looked sh R b k s own i (tells p s own i.writer) v
-    (at_image sh R b k s 0 (63 * sh.undo) own p i h t (subst (Reaches sh R b k s (txn_or_none own) 0 (63 * sh.undo)) (sym e) (begins sh R b k s own h))) l
+    (at_image sh R b k s 0 (MOST_UNDO_PARTS * sh.undo) own p i h t (subst (Reaches sh R b k s (txn_or_none own) 0 (MOST_UNDO_PARTS * sh.undo)) (sym e) (begins sh R b k s own h))) l
 
 -- ---- one part
 

@@ -1,6 +1,6 @@
 -- One step of a walk, from an image that was reached and from an address to which it leads.
 use Rattle.std.proofs.Common.{◌≡◌, ◌≢◌, ℕ, zero, suc, ◌+◌, ◌*◌, ◌<◌, ◌≤◌, true, false, List, [], ◌∷◌, map, option_map, Option, Some, None, refl, sym, ◌∙◌, ap, subst, arith, inl, inr, min, leb, ltb, leb-true, ltb-false, eq-eqb, lt-ltb, le-leb, le-ltb}
-use Rattle.seg_words.specs.Types.{is_shape, Shape, Slot, UndoAddr, Writer, By, new_slot}
+use Rattle.seg_words.specs.Types.{is_shape, Shape, Slot, UndoAddr, Writer, By, new_slot, MOST_UNDO_PARTS, OWN_BLOCKS, MOST_UNDO_BLOCKS}
 use Rattle.seg_words.proofs.Lemmas.{and_parts, cond-true, cond-false}
 use Rattle.redo_model.specs.Records.{Record}
 use Rattle.redo_model.specs.Model.{holds_row, image as image_in, HeldPart, undo_held, undo_sequence, held_at, is_reused, Made, makers, counts, image_at, row_in, AreAllowed}
@@ -38,7 +38,7 @@ all_made sh R b k s t i [] c w x l n p r e = e
 all_made sh R b k s t i (m ∷ ms) c w x l n p r e = (record { undo = c.0; writer = w.0; txn = x.0; leads = l.0; known = n.0; part = p.0; ring = r.0 }, all_made sh R b k s t m.old ms c.1 w.1 x.1 l.1 n.1 p.1 r.1 e)
 
 -- the image that stands there is reached
-pub begins : (sh : Shape) (R : List Record) (b k s : ℕ) (own : Option ℕ) → IsReader sh R own → Reaches sh R b k s (txn_or_none own) 0 (63 * sh.undo) (image_in R b k)
+pub begins : (sh : Shape) (R : List Record) (b k s : ℕ) (own : Option ℕ) → IsReader sh R own → Reaches sh R b k s (txn_or_none own) 0 (MOST_UNDO_PARTS * sh.undo) (image_in R b k)
 begins sh R b k s own h =
     let w = writers_are_told sh R s (txn_or_none own) b k h.allowed (is_open R own h.reader) in
     let known = slots_are_known sh R b k h.allowed in
@@ -164,17 +164,17 @@ is_refused_entry R b k s t u e = record { ends = e; means = meant R b k s t (Unk
 
 -- ---- a walk
 
-few_undo_blocks : (sh : Shape) → is_shape sh ≡ true → sh.undo ≤ 1024
+few_undo_blocks : (sh : Shape) → is_shape sh ≡ true → sh.undo ≤ MOST_UNDO_BLOCKS
 few_undo_blocks sh h =
-    let a = and_parts _ (leb (37 + sh.undo + sh.extent) sh.blocks) h in
-    let b = and_parts _ (leb sh.undo 1024) a.0 in
-    leb-true sh.undo 1024 b.1
+    let a = and_parts _ (leb (OWN_BLOCKS + sh.undo + sh.extent) sh.blocks) h in
+    let b = and_parts _ (leb sh.undo MOST_UNDO_BLOCKS) a.0 in
+    leb-true sh.undo MOST_UNDO_BLOCKS b.1
 
-pub starts : (sh : Shape) (R : List Record) (b k s : ℕ) (own : Option ℕ) (ring most : ℕ) (a : UndoAddr) → IsWalk sh R b k s own ring a → most ≡ 63 * min ring 1024 → LeadsDown sh R b k s (txn_or_none own) 0 most a
+pub starts : (sh : Shape) (R : List Record) (b k s : ℕ) (own : Option ℕ) (ring most : ℕ) (a : UndoAddr) → IsWalk sh R b k s own ring a → most ≡ MOST_UNDO_PARTS * min ring 1024 → LeadsDown sh R b k s (txn_or_none own) 0 most a
 starts sh R b k s own ring most a w e =
     let few = few_undo_blocks sh w.reader.shape in
     let same = w.undo_blocks in
-    let all : 63 * sh.undo ≡ most = omega (arith, e, few, same) in
+    let all : MOST_UNDO_PARTS * sh.undo ≡ most = omega (arith, e, few, same) in
     subst (λ n. LeadsDown sh R b k s (txn_or_none own) 0 n a) all w.steps
 
 pub on_way : (sh : Shape) (R : List Record) (b k s : ℕ) (own : Option ℕ) (ring n most : ℕ) (from a : UndoAddr) → IsWalk sh R b k s own ring from → LeadsDown sh R b k s (txn_or_none own) n most a → IsOnWay sh R b k s own n most a (ltb n most)

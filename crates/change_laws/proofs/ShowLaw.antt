@@ -10,11 +10,11 @@ use Rattle.redo_laws.proofs.undo.ReadsLaw.{undo_is_read}
 use Rattle.undo_block.specs.Parts as parts
 use Rattle.undo_block.specs.declared.part.Part.{Part}
 use Rattle.undo_block.specs.Types.{used_by, with_part, holder_of}
-use Rattle.version_laws.specs.Types.{ended_by, as_kept}
+use Rattle.version_laws.specs.Types.{begin_of, ended_by, as_kept}
 use Rattle.version_laws.proofs.SlotLaw.{begun_from_one}
 use Rattle.version_laws.proofs.TableLaw.{tables_tell}
 use Rattle.redo_model.proofs.Bridge.{image_is}
-use Rattle.change_laws.specs.Drafts.{begin_of, entry_by, taker_of}
+use Rattle.change_laws.specs.Drafts.{entry_by, taker_of}
 use Rattle.change_laws.specs.Shows.{UndoPagesShow, RowPagesShow}
 use Rattle.change_laws.proofs.BegunLaw.{begins_leave}
 

@@ -5,7 +5,8 @@ use Rattle.seg_words.specs.Types.{Shape, UndoAddr, BLOCK_ROOM, OWN_BLOCKS, UNDO_
 use Rattle.redo_model.specs.Records.{Record, Move, Table, Begin, Reuse, Insert, Update, Migrate, Return, Delete, RowPart, RowBody, ReuseRecord}
 use Rattle.redo_model.specs.Model.{effect_of, Undone, undo_parts, undo_used, undo_sequence, undo_holder, has_holder, current_undo, ring_after, next_undo, parts_size, fits_undo, IsUndoFull, StatesUndo, IsOverflow, IsCalledFor, IsKindAllowed, is_whole, IsLawful}
 use Rattle.redo_laws.proofs.allowed.Basics.{basics}
-use Rattle.change_laws.specs.Drafts.{RowKind, Inserts, Updates, Migrates, Returns, Deletes, as_record, Fill, Change, part_of, parts_of, fills_size, change_size, body_at, record_of, begin_of, reuse_of}
+use Rattle.version_laws.specs.Types.{begin_of}
+use Rattle.change_laws.specs.Drafts.{RowKind, Inserts, Updates, Migrates, Returns, Deletes, as_record, Fill, Change, part_of, parts_of, fills_size, change_size, body_at, record_of, reuse_of}
 use Rattle.change_laws.specs.Ready.{IsReady}
 use Rattle.change_laws.specs.Spots.{Spot, UndoNext, StatesAt, SpotsState, spot_for, Here, Next, Full, holder_pair, holder_pairs, undo_end, undo_start, spot_past, spot_by, IsFull}
 use Rattle.change_laws.specs.Allowed.{BeginsAreLawful, LawfulAt, ChangesAreLawful, FullIsTold}

@@ -3,7 +3,8 @@ use Rattle.std.specs.Prelude.{◌≡◌, ℕ, ◌≤◌, false, List, ◌∷◌,
 use Rattle.seg_words.specs.Types.{Shape, Rowid, MOST_SESSIONS}
 use Rattle.redo_model.specs.Records.{Record, Begin, Reuse}
 use Rattle.redo_model.specs.Model.{has_open, TakesEntry, IsLawful}
-use Rattle.change_laws.specs.Drafts.{Change, change_size, record_of, begin_of, insert_of, update_of, migrate_of, return_of, delete_of, Stand}
+use Rattle.version_laws.specs.Types.{begin_of}
+use Rattle.change_laws.specs.Drafts.{Change, change_size, record_of, insert_of, update_of, migrate_of, return_of, delete_of, Stand}
 use Rattle.change_laws.specs.Ready.{IsReady, MayInsert, MayUpdate, MayReturn, MayMigrate, MayDelete}
 use Rattle.change_laws.specs.Spots.{Spot, Here, Next, Full, IsFull, spot_for, undo_start}
 

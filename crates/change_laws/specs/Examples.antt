@@ -5,7 +5,8 @@ use Rattle.std.specs.Prelude.{◌≡◌, [], ◌∷◌, drop, Some, None}
 use Rattle.redo_model.specs.Records.{Begin}
 use Rattle.redo_model.specs.Model.{at_place}
 use Rattle.redo_model.specs.Worked.{small, hello, letters, again_at, nine, migrated, updated, filled, returned, half_deleted, reused}
-use Rattle.change_laws.specs.Drafts.{begin_of, insert_of, update_of, migrate_of, return_of, delete_of, Stand, Whole, Apart}
+use Rattle.version_laws.specs.Types.{begin_of}
+use Rattle.change_laws.specs.Drafts.{insert_of, update_of, migrate_of, return_of, delete_of, Stand, Whole, Apart}
 use Rattle.change_laws.specs.Spots.{Here, Full, spot_for, list_at, list_with}
 use Rattle.change_laws.specs.Ready.{InPlace, ToHead, ToOther, path_of, updated_blocks}
 use Rattle.change_laws.specs.Answers.{Makes, RowChanged, RowBusy, BlockNeeded, update_answer, delete_answer}

@@ -1,5 +1,5 @@
 -- All words of this crate's specs, one line a file, for crates above it.
-pub use Rattle.change_laws.specs.Drafts.{begin_of, reuse_of, RowKind, Inserts, Updates, Migrates, Returns, Deletes, as_record, Fill, Change, taker_of, entry_by, part_of, parts_of, fills_size, change_size, body_at, record_of, new_part, new_parts, new_body, Stand, Whole, Apart, holder_of, free_place, fill, insert_of, update_of, migrate_fills, migrate_of, return_of, delete_fills, delete_of}
+pub use Rattle.change_laws.specs.Drafts.{reuse_of, RowKind, Inserts, Updates, Migrates, Returns, Deletes, as_record, Fill, Change, taker_of, entry_by, part_of, parts_of, fills_size, change_size, body_at, record_of, new_part, new_parts, new_body, Stand, Whole, Apart, holder_of, free_place, fill, insert_of, update_of, migrate_fills, migrate_of, return_of, delete_fills, delete_of}
 pub use Rattle.change_laws.specs.Spots.{holder_pair, holder_pairs, Spot, Here, Next, Full, undo_end, undo_start, spot_past, spot_by, spot_for, list_at, list_with, IsFull, UndoNext, StatesAt, SpotsState}
 pub use Rattle.change_laws.specs.Ready.{IsOwn, IsReady, lacks_entry, first_lacking, blocks_at, Path, InPlace, ToHead, ToOther, fits_at, path_past, path_of, updated_blocks, StandsAt, MayInsert, MayWrite, MayUpdate, MayReturn, IsOtherThan, MayMigrate, MayDelete, ReturnsFrom, UpdateGoes, UpdatesGo}
 pub use Rattle.change_laws.specs.Allowed.{BeginsAreLawful, InsertsAreReady, UpdatesAreReady, MigratesAreReady, ReturnsAreReady, DeletesAreReady, LawfulAt, ChangesAreLawful, FullIsTold}

@@ -10,8 +10,8 @@ use Rattle.txn_block.specs.declared.entry.TableEntry.TheVariants.{Used}
 use Rattle.txn_block.specs.declared.entry.Outcome.TheVariants.{Active}
 use Rattle.txn_block.specs.Entries.{is_unused, is_rolled_back, committed, number_of}
 use Rattle.txn_block.specs.Types.{TxnTable, NoneBelow, TakesNext}
-use Rattle.version_laws.specs.Types.{HoldsTable, entry_used_by, outcome_when_over}
-use Rattle.end_laws.specs.Beginning.{begin_of, BeginsAreTold}
+use Rattle.version_laws.specs.Types.{begin_of, HoldsTable, entry_used_by, outcome_when_over}
+use Rattle.end_laws.specs.Beginning.{BeginsAreTold}
 use Rattle.end_laws.proofs.Allowed.{called}
 
 -- entries of the table as the model's states

@@ -1,14 +1,11 @@
 -- The record that begins a transaction, by the transaction table before it: the entry that is used next, and the control
 -- number after it.
-use Rattle.std.specs.Prelude.{◌≡◌, ℕ, suc, ◌≤◌, true, false, List, ◌∷◌, Some}
+use Rattle.std.specs.Prelude.{◌≡◌, ℕ, ◌≤◌, true, false, List, ◌∷◌, Some}
 use Rattle.seg_words.specs.Types.{Shape, MOST_SESSIONS}
-use Rattle.redo_model.specs.Records.{Record, Begin, BeginRecord}
-use Rattle.redo_model.specs.Model.{txn_count, has_open, IsLawful}
+use Rattle.redo_model.specs.Records.{Record, Begin}
+use Rattle.redo_model.specs.Model.{has_open, IsLawful}
 use Rattle.txn_block.specs.Types.{TxnTable, TakesNext}
-use Rattle.version_laws.specs.Types.{HoldsTable}
-
-abbrev pub begin_of : List Record → ℕ → ℕ → ℕ → BeginRecord
-begin_of R who entry control = record { txn = suc (txn_count R); session = who; entry = entry; control = control }
+use Rattle.version_laws.specs.Types.{begin_of, HoldsTable}
 
 -- a session, from 1 to 64, that has no active transaction
 pub record MayBegin (R : List Record) (who : ℕ) : Type 0 where

@@ -144,29 +144,13 @@ untouched sh R r d h = sym (ap (λ (b : Bool). cond b (changed_page r (suc (leng
 
 abbrev pub IsCatalogue : Page → Type 0
 IsCatalogue (pages.Zero x) = Unit {0}
-IsCatalogue (pages.Checkpoint x) = ⊥
-IsCatalogue (pages.Txns x) = ⊥
 IsCatalogue (pages.Catalogue x) = Unit {0}
-IsCatalogue (pages.Space x) = ⊥
-IsCatalogue (pages.Undo x) = ⊥
-IsCatalogue (pages.First x) = ⊥
-IsCatalogue (pages.Second x) = ⊥
-IsCatalogue (pages.Third x) = ⊥
-IsCatalogue (pages.Header x) = ⊥
-IsCatalogue (pages.Rows x) = ⊥
+IsCatalogue _ = ⊥
 
 catalogue_started : (p : Page) (lsn : ℕ) (r : Record) → IsCatalogue p → IsCatalogue (page_after r lsn (or_kept (as_catalogue p) p))
 catalogue_started (pages.Zero x) lsn r h = tt
-catalogue_started (pages.Checkpoint x) lsn r h = absurd h
-catalogue_started (pages.Txns x) lsn r h = absurd h
 catalogue_started (pages.Catalogue x) lsn r h = tt
-catalogue_started (pages.Space x) lsn r h = absurd h
-catalogue_started (pages.Undo x) lsn r h = absurd h
-catalogue_started (pages.First x) lsn r h = absurd h
-catalogue_started (pages.Second x) lsn r h = absurd h
-catalogue_started (pages.Third x) lsn r h = absurd h
-catalogue_started (pages.Header x) lsn r h = absurd h
-catalogue_started (pages.Rows x) lsn r h = absurd h
+catalogue_started p lsn r h = absurd h
 
 catalogue_kind : (sh : Shape) (R : List Record) (r : Record) → is_shape sh ≡ true → AreAllowed sh (r ∷ R) → IsCatalogue (page_of sh R 2) → IsCatalogue (page_of sh (r ∷ R) 2)
 catalogue_kind sh R (Table t) s h x =
@@ -200,55 +184,23 @@ catalogue_stands sh (r ∷ R) s h = catalogue_kind sh R r s h (catalogue_stands 
 
 abbrev pub IsSpace : List Record → Page → Type 0
 IsSpace R (pages.Zero x) = (o : ℕ) → extents_of R o ≡ []
-IsSpace R (pages.Checkpoint x) = ⊥
-IsSpace R (pages.Txns x) = ⊥
-IsSpace R (pages.Catalogue x) = ⊥
 IsSpace R (pages.Space x) = Unit {0}
-IsSpace R (pages.Undo x) = ⊥
-IsSpace R (pages.First x) = ⊥
-IsSpace R (pages.Second x) = ⊥
-IsSpace R (pages.Third x) = ⊥
-IsSpace R (pages.Header x) = ⊥
-IsSpace R (pages.Rows x) = ⊥
+IsSpace R _ = ⊥
 
 space_started : (R S : List Record) (p : Page) (lsn : ℕ) (r : Record) → IsSpace R p → IsSpace S (page_after r lsn (or_kept (as_space p) p))
 space_started R S (pages.Zero x) lsn r h = tt
-space_started R S (pages.Checkpoint x) lsn r h = absurd h
-space_started R S (pages.Txns x) lsn r h = absurd h
-space_started R S (pages.Catalogue x) lsn r h = absurd h
 space_started R S (pages.Space x) lsn r h = tt
-space_started R S (pages.Undo x) lsn r h = absurd h
-space_started R S (pages.First x) lsn r h = absurd h
-space_started R S (pages.Second x) lsn r h = absurd h
-space_started R S (pages.Third x) lsn r h = absurd h
-space_started R S (pages.Header x) lsn r h = absurd h
-space_started R S (pages.Rows x) lsn r h = absurd h
+space_started R S p lsn r h = absurd h
 
 space_kept : (R S : List Record) (p : Page) → ((o : ℕ) → extents_of R o ≡ [] → extents_of S o ≡ []) → IsSpace R p → IsSpace S p
 space_kept R S (pages.Zero x) f h = λ o. f o (h o)
-space_kept R S (pages.Checkpoint x) f h = absurd h
-space_kept R S (pages.Txns x) f h = absurd h
-space_kept R S (pages.Catalogue x) f h = absurd h
 space_kept R S (pages.Space x) f h = tt
-space_kept R S (pages.Undo x) f h = absurd h
-space_kept R S (pages.First x) f h = absurd h
-space_kept R S (pages.Second x) f h = absurd h
-space_kept R S (pages.Third x) f h = absurd h
-space_kept R S (pages.Header x) f h = absurd h
-space_kept R S (pages.Rows x) f h = absurd h
+space_kept R S p f h = absurd h
 
 space_after : (R S : List Record) (p : Page) (lsn : ℕ) (r : Record) → ((o : ℕ) → extents_of R o ≡ [] → extents_of S o ≡ []) → IsSpace R p → IsSpace S (page_after r lsn p)
 space_after R S (pages.Zero x) lsn r f h = λ o. f o (h o)
-space_after R S (pages.Checkpoint x) lsn r f h = absurd h
-space_after R S (pages.Txns x) lsn r f h = absurd h
-space_after R S (pages.Catalogue x) lsn r f h = absurd h
 space_after R S (pages.Space x) lsn r f h = tt
-space_after R S (pages.Undo x) lsn r f h = absurd h
-space_after R S (pages.First x) lsn r f h = absurd h
-space_after R S (pages.Second x) lsn r f h = absurd h
-space_after R S (pages.Third x) lsn r f h = absurd h
-space_after R S (pages.Header x) lsn r f h = absurd h
-space_after R S (pages.Rows x) lsn r f h = absurd h
+space_after R S p lsn r f h = absurd h
 
 lowered : (R : List Record) (l : LowerRecord) (o : ℕ) → extents_of R o ≡ [] → extents_of (Lower l ∷ R) o ≡ []
 lowered R l o e = elim (cases_Bool (eqb l.obj o)) [

@@ -131,28 +131,12 @@ kept R S (pages.Catalogue x) n t m h = (
     named = λ name. h.1.named name ∙ sym (m name);
   },
 )
-kept R S (pages.Checkpoint x) n t m h = absurd h
-kept R S (pages.Txns x) n t m h = absurd h
-kept R S (pages.Space x) n t m h = absurd h
-kept R S (pages.Undo x) n t m h = absurd h
-kept R S (pages.First x) n t m h = absurd h
-kept R S (pages.Second x) n t m h = absurd h
-kept R S (pages.Third x) n t m h = absurd h
-kept R S (pages.Header x) n t m h = absurd h
-kept R S (pages.Rows x) n t m h = absurd h
+kept R S p n t m h = absurd h
 
 table_keeps : (sh : Shape) (R : List Record) (t : TableRecord) (lsn : ℕ) (p : Page) → TableAllowed sh R t → Keeps R p → Keeps (Table t ∷ R) (page_after (Table t) lsn (or_kept (as_catalogue p) p))
 table_keeps sh R t lsn (pages.Zero x) a h = (omega arith, has_more sh R t (replicate MOST_TABLES no_table) a (has_none R h))
 table_keeps sh R t lsn (pages.Catalogue x) a h = (omega arith, has_more sh R t x.entries a h.1)
-table_keeps sh R t lsn (pages.Checkpoint x) a h = absurd h
-table_keeps sh R t lsn (pages.Txns x) a h = absurd h
-table_keeps sh R t lsn (pages.Space x) a h = absurd h
-table_keeps sh R t lsn (pages.Undo x) a h = absurd h
-table_keeps sh R t lsn (pages.First x) a h = absurd h
-table_keeps sh R t lsn (pages.Second x) a h = absurd h
-table_keeps sh R t lsn (pages.Third x) a h = absurd h
-table_keeps sh R t lsn (pages.Header x) a h = absurd h
-table_keeps sh R t lsn (pages.Rows x) a h = absurd h
+table_keeps sh R t lsn p a h = absurd h
 
 -- a record that makes no table
 others_keep : (sh : Shape) (R : List Record) (r : Record) → is_shape sh ≡ true → AreAllowed sh (r ∷ R) → (2 ≡ low_of r → ⊥) → Keeps (r ∷ R) (page_of sh R 2) → Keeps (r ∷ R) (page_of sh (r ∷ R) 2)
@@ -229,15 +213,7 @@ tells sh R c a some h = record {
 page_says : (sh : Shape) (R : List Record) (p : Page) → AreAllowed sh R → Keeps R p → SaysCatalogue sh R p
 page_says sh R (pages.Zero x) a h = h
 page_says sh R (pages.Catalogue x) a h = tells sh R x a h.0 h.1
-page_says sh R (pages.Checkpoint x) a h = absurd h
-page_says sh R (pages.Txns x) a h = absurd h
-page_says sh R (pages.Space x) a h = absurd h
-page_says sh R (pages.Undo x) a h = absurd h
-page_says sh R (pages.First x) a h = absurd h
-page_says sh R (pages.Second x) a h = absurd h
-page_says sh R (pages.Third x) a h = absurd h
-page_says sh R (pages.Header x) a h = absurd h
-page_says sh R (pages.Rows x) a h = absurd h
+page_says sh R p a h = absurd h
 
 pub catalogues_say : CataloguesSay
 catalogues_say sh R s h = page_says sh R (page_of sh R 2) h (keeps sh R s h)

@@ -40,15 +40,7 @@ begun_has (pages.Zero x) h = record { control_fits = omega arith; txn_fits = ome
     unused zero = tt
     unused (suc n) = (tt, unused n)
 begun_has (pages.Checkpoint x) h = absurd h
-begun_has (pages.Txns x) h = h
-begun_has (pages.Catalogue x) h = h
-begun_has (pages.Space x) h = h
-begun_has (pages.Undo x) h = h
-begun_has (pages.First x) h = h
-begun_has (pages.Second x) h = h
-begun_has (pages.Third x) h = h
-begun_has (pages.Header x) h = h
-begun_has (pages.Rows x) h = h
+begun_has p h = h
 
 named_has : (p : Page) → Fields p → Fields (or_kept (as_catalogue p) p)
 named_has (pages.Zero x) h = record { count = refl; each = none MOST_TABLES }
@@ -57,15 +49,7 @@ named_has (pages.Zero x) h = record { count = refl; each = none MOST_TABLES }
     none zero = tt
     none (suc n) = (tt, none n)
 named_has (pages.Checkpoint x) h = absurd h
-named_has (pages.Txns x) h = h
-named_has (pages.Catalogue x) h = h
-named_has (pages.Space x) h = h
-named_has (pages.Undo x) h = h
-named_has (pages.First x) h = h
-named_has (pages.Second x) h = h
-named_has (pages.Third x) h = h
-named_has (pages.Header x) h = h
-named_has (pages.Rows x) h = h
+named_has p h = h
 
 mapped_has : (p : Page) → Fields p → Fields (or_kept (as_space p) p)
 mapped_has (pages.Zero x) h = record { fits = omega arith; has = no_bits; bytes = zeros 256 }
@@ -74,15 +58,7 @@ mapped_has (pages.Zero x) h = record { fits = omega arith; has = no_bits; bytes 
     zeros zero = tt
     zeros (suc n) = (omega arith, zeros n)
 mapped_has (pages.Checkpoint x) h = absurd h
-mapped_has (pages.Txns x) h = h
-mapped_has (pages.Catalogue x) h = h
-mapped_has (pages.Space x) h = h
-mapped_has (pages.Undo x) h = h
-mapped_has (pages.First x) h = h
-mapped_has (pages.Second x) h = h
-mapped_has (pages.Third x) h = h
-mapped_has (pages.Header x) h = h
-mapped_has (pages.Rows x) h = h
+mapped_has p h = h
 
 table_has : (t : TableRecord) (p : Page) → IsTable t → Fields p → Fields (or_kept (table_started t p) p)
 table_has t p s h = elim (eqb (dba_of p) 2) as (λ b. Fields (or_kept (cond b (as_catalogue p) (Some (new_header (dba_of p) t))) p)) [
@@ -141,14 +117,8 @@ reuse_has : (q : ReuseRecord) (lsn : ℕ) (p : Page) → HasSpelling (Reuse q) �
 reuse_has q lsn (pages.Zero x) s l h = tt
 reuse_has q lsn (pages.Checkpoint x) s l h = absurd h
 reuse_has q lsn (pages.Txns x) s l h = txns_have (Reuse q) x s l h
-reuse_has q lsn (pages.Catalogue x) s l h = h
-reuse_has q lsn (pages.Space x) s l h = h
-reuse_has q lsn (pages.Undo x) s l h = h
-reuse_has q lsn (pages.First x) s l h = h
-reuse_has q lsn (pages.Second x) s l h = h
-reuse_has q lsn (pages.Third x) s l h = h
-reuse_has q lsn (pages.Header x) s l h = h
 reuse_has q lsn (pages.Rows x) s l h = tt
+reuse_has q lsn p s l h = h
 
 fitted_has : (sh : Shape) (R : List Record) (r : Record) (d : ℕ) → is_shape sh ≡ true → suc (suc (length R)) < 2 ^ 64 → AreAllowed sh (r ∷ R) → PageFits r (start r (suc (length R)) (page_of sh R d)) → Fields (page_of sh R d) → Fields (changed_page r (suc (length R)) (page_of sh R d))
 fitted_has sh R r d s l h f x =

@@ -1,6 +1,6 @@
 // Positions of data blocks, and where they stand.
-ghost use Rattle.std.specs.Prelude.{ℕ, ◌≡◌, ◌≤◌, ◌+◌, true, MatchOption};
-ghost use Rattle.seg_words.specs.Types.{head_blocks as heads_of, is_shape};
+ghost use Rattle.std.specs.Prelude.{ℕ, ◌≡◌, ◌≤◌, ◌+◌, ◌*◌, true, MatchOption};
+ghost use Rattle.seg_words.specs.Types.{head_blocks as heads_of, is_shape, MOST_EXTENT_BLOCKS};
 ghost use Rattle.data_places.specs.Places.{IsPlace, block_or_none, data_count as count_of};
 
 use seg_base::{Dba, EXTENTS_OF_L2, MOST_EXTENTS, OWN_BLOCKS, Shape};
@@ -49,7 +49,7 @@ pub fn data_count(shape: &Shape, extents: u16) -> u32
     requires shape { is_shape shape.now ≡ true }
     requires most { extents ≤ MOST_EXTENTS }
     ensures value { result ≡ count_of shape.now extents }
-    ensures most { result ≤ 57600 }
+    ensures most { result ≤ MOST_EXTENTS * MOST_EXTENT_BLOCKS }
 {
     let mut count = 0;
     for index in 0..extents {

@@ -1,6 +1,6 @@
 // The records of tables and marks, drafted from what the pages say.
-ghost use Rattle.std.specs.Prelude.{ℕ, ◌≡◌, ◌≤◌, ◌<◌, ◌+◌, min, true, List, length, IfOk, IsOk, Some};
-ghost use Rattle.seg_words.specs.Types.{Shape as TheShape, is_extent, is_shape, MOST_EXTENTS};
+ghost use Rattle.std.specs.Prelude.{ℕ, ◌≡◌, ◌≤◌, ◌<◌, ◌+◌, ◌*◌, min, true, List, length, IfOk, IsOk, Some};
+ghost use Rattle.seg_words.specs.Types.{Shape as TheShape, is_extent, is_shape, MOST_EXTENTS, MOST_EXTENT_BLOCKS};
 ghost use Rattle.redo_model.specs.Records.{Record};
 ghost use Rattle.redo_model.specs.Model.{block_in as nth_block, extent_at, extents_of, group_start as start_of, index_of, table_count};
 ghost use Rattle.page_fit.specs.Headers.{SaysHeader};
@@ -27,7 +27,7 @@ pub fn draft_movement(segment: &Segment, on: bool) -> MovementRecord
 
 /// The high mark after it moved up, by at most 16 of so many data blocks.
 fn next_high(high: u32, count: u32) -> u32
-    requires { count ≤ 57600 }
+    requires { count ≤ MOST_EXTENTS * MOST_EXTENT_BLOCKS }
     ensures { result ≡ min (high + ADVANCE_BLOCKS) count }
 {
     if high >= count {

@@ -170,7 +170,7 @@ few_undo_blocks sh h =
     let b = and_parts _ (leb sh.undo MOST_UNDO_BLOCKS) a.0 in
     leb-true sh.undo MOST_UNDO_BLOCKS b.1
 
-pub starts : (sh : Shape) (R : List Record) (b k s : ℕ) (own : Option ℕ) (ring most : ℕ) (a : UndoAddr) → IsWalk sh R b k s own ring a → most ≡ MOST_UNDO_PARTS * min ring 1024 → LeadsDown sh R b k s (txn_or_none own) 0 most a
+pub starts : (sh : Shape) (R : List Record) (b k s : ℕ) (own : Option ℕ) (ring most : ℕ) (a : UndoAddr) → IsWalk sh R b k s own ring a → most ≡ MOST_UNDO_PARTS * min ring MOST_UNDO_BLOCKS → LeadsDown sh R b k s (txn_or_none own) 0 most a
 starts sh R b k s own ring most a w e =
     let few = few_undo_blocks sh w.reader.shape in
     let same = w.undo_blocks in

@@ -1,22 +1,18 @@
 -- An image that holds a body names its head, also one that was written over.
-use Rattle.std.proofs.Common.{◌≡◌, ℕ, zero, suc, Bool, true, false, cond, List, [], ◌∷◌, Option, Some, None, refl, sym, subst, inl, inr}
+use Rattle.std.proofs.Common.{◌≡◌, ℕ, zero, suc, Bool, true, false, cond, List, [], ◌∷◌, Option, Some, None, refl, sym, ◌∙◌, subst, inl, inr}
 use Rattle.seg_words.specs.Types.{Shape, Empty, Row, Head, Body, Slot, UndoAddr, Writer, number_of_writer, as_told}
-use Rattle.redo_model.specs.Records.{Record, Insert, Update, Migrate, Return, Delete, Move, RowPart, RowBody, MoveRecord}
-use Rattle.redo_model.specs.Model.{Step, row_step, move_step, standing, image, Made, makers, first_counted, counts, InsertAllowed, UpdateAllowed, MigrateAllowed, ReturnAllowed, DeleteAllowed, MoveAllowed}
-use Rattle.redo_model.specs.Effects.{Adds}
-use Rattle.redo_model.specs.AllowedRows.{migrates_plain, migrates_again, deletes_plain, deletes_migrated}
-use Rattle.redo_model.specs.AllowedMoves.{moves_plain, moves_to_body, moves_migrated}
+use Rattle.redo_model.specs.Records.{Record, RowPart, RowBody}
+use Rattle.redo_model.specs.Model.{Step, standing, image, Made, makers, first_counted, counts, UpdateAllowed, MigrateAllowed}
+use Rattle.redo_model.specs.AllowedRows.{migrates_plain, migrates_again}
 use Rattle.redo_laws.specs.Chain.{IsStatedIn, IsStated, EachMade}
 use Rattle.redo_laws.proofs.lists.Every.{Every}
 use Rattle.redo_laws.proofs.links.ChainLaw.{slots_are_chains}
 use Rattle.redo_laws.proofs.steps.ImageFacts.{IsKept, NewHave, OldHave, AllHave, Puts, all_have}
+use Rattle.redo_laws.proofs.steps.NewImages.{new_images}
 use Rattle.change_laws.specs.Looks.{HeadOf, BodiesNameHeads}
 
 abbrev NamesHead : ℕ → Slot → Type 0
 NamesHead b i = i.kind ≡ Body → HeadOf i
-
-row_no_body : (P : Type 0) → Row ≡ Body → P
-row_no_body P e = absurd cc
 
 head_no_body : (P : Type 0) → Head ≡ Body → P
 head_no_body P e = absurd cc
@@ -32,9 +28,6 @@ told_names b s (Some (suc c)) h = λ e. let x = h e in record { head = x.head; l
 kept : IsKept NamesHead
 kept = record { fresh = λ b e. empty_no_body _ e; cleaned = λ b cs i h. told_names b i (number_of_writer cs i.writer) h }
 
-new_insert : (sh : Shape) (R : List Record) (w : RowBody) → InsertAllowed sh R w → NewHave NamesHead w.parts
-new_insert sh R w a = subst (NewHave NamesHead) (sym a.parts) ((λ e. row_no_body _ e), tt)
-
 new_update : (sh : Shape) (R : List Record) (w : RowBody) → UpdateAllowed sh R w → AllHave NamesHead R → NewHave NamesHead w.parts
 new_update sh R w a h = subst (NewHave NamesHead) (sym a.parts) ((λ e. let x = h.images a.block a.slot e in record { head = x.head; link_is = x.link_is }), tt)
 
@@ -42,32 +35,13 @@ new_migrate : (sh : Shape) (R : List Record) (w : RowBody) → MigrateAllowed sh
 new_migrate sh R w (migrates_plain a) = subst (NewHave NamesHead) (sym a.parts) ((λ e. head_no_body _ e), ((λ e. record { head = _; link_is = refl }), tt))
 new_migrate sh R w (migrates_again a) = subst (NewHave NamesHead) (sym a.parts) ((λ e. head_no_body _ e), ((λ e. empty_no_body _ e), ((λ e. record { head = _; link_is = refl }), tt)))
 
-new_return : (sh : Shape) (R : List Record) (w : RowBody) → ReturnAllowed sh R w → NewHave NamesHead w.parts
-new_return sh R w a = subst (NewHave NamesHead) (sym a.parts) ((λ e. row_no_body _ e), ((λ e. empty_no_body _ e), tt))
-
-new_delete : (sh : Shape) (R : List Record) (w : RowBody) → DeleteAllowed sh R w → NewHave NamesHead w.parts
-new_delete sh R w (deletes_plain a) = subst (NewHave NamesHead) (sym a.parts) ((λ e. empty_no_body _ e), tt)
-new_delete sh R w (deletes_migrated a) = subst (NewHave NamesHead) (sym a.parts) ((λ e. empty_no_body _ e), ((λ e. empty_no_body _ e), tt))
-
-new_move : (sh : Shape) (R : List Record) (m : MoveRecord) → MoveAllowed sh R m → NewHave NamesHead m.parts
-new_move sh R m (moves_plain a) = subst (NewHave NamesHead) (sym a.parts) ((λ e. empty_no_body _ e), ((λ e. row_no_body _ e), tt))
-new_move sh R m (moves_to_body a) = subst (NewHave NamesHead) (sym a.parts) ((λ e. empty_no_body _ e), ((λ e. row_no_body _ e), tt))
-new_move sh R m (moves_migrated a) = subst (NewHave NamesHead) (sym a.parts) ((λ e. empty_no_body _ e), ((λ e. empty_no_body _ e), ((λ e. row_no_body _ e), tt)))
-
-same_step : (s t : Step) → Adds s ≡ Adds t → s ≡ t
-same_step s t e = cc
-
-of_step : (s t : Step) → Adds s ≡ Adds t → NewHave NamesHead s.parts → NewHave NamesHead t.parts
-of_step s t e h = subst (λ (x : Step). NewHave NamesHead x.parts) (same_step s t e) h
-
 puts : (sh : Shape) → Puts sh NamesHead
-puts sh R (Insert w) st h e a = of_step (row_step w false) st e (new_insert sh R w h.1.kind)
-puts sh R (Update w) st h e a = of_step (row_step w false) st e (new_update sh R w h.1.kind a)
-puts sh R (Migrate w) st h e a = of_step (row_step w false) st e (new_migrate sh R w h.1.kind)
-puts sh R (Return w) st h e a = of_step (row_step w false) st e (new_return sh R w h.1.kind)
-puts sh R (Delete w) st h e a = of_step (row_step w true) st e (new_delete sh R w h.1.kind)
-puts sh R (Move m) st h e a = of_step (move_step m) st e (new_move sh R m h.1.kind)
-puts sh R _ st h e a = absurd cc
+puts sh = new_images sh NamesHead (record {
+  rows = λ b i k e. absurd (let x : Row ≡ Body = sym k ∙ e in cc);
+  emptied = λ b i k e. absurd (let x : Empty ≡ Body = sym k ∙ e in cc);
+  updates = new_update sh;
+  migrates = new_migrate sh;
+})
 
 -- the images below the newest are old images of standing steps
 

@@ -1,10 +1,9 @@
 -- A change may be made wherever its undo goes.
-use Rattle.std.proofs.Common.{◌≡◌, ℕ, zero, suc, ◌+◌, ◌≤◌, Bool, true, false, cond, List, [], ◌∷◌, length, find, MatchOption, option_map, is_none, Option, Some, None, refl, sym, ap, ap₂, subst, arith, true≢false}
+use Rattle.std.proofs.Common.{◌≡◌, ℕ, zero, suc, ◌+◌, ◌≤◌, Bool, true, false, cond, List, [], ◌∷◌, length, find, MatchOption, option_map, is_none, Option, Some, None, refl, sym, ap, ap₂, arith, true≢false}
 use Rattle.seg_words.proofs.Lemmas.{and_parts}
 use Rattle.seg_words.specs.Types.{Shape, Rowid, Slot, Block, Writer, By, At, UndoAddr, number_of_writer, as_told, is_empty, writer_has_ended, entry_size, takes_beside, fits_beside, BLOCK_ROOM, LONGEST_ROW, UNDO_PART_SIZE}
 use Rattle.redo_model.specs.Records.{Record, Insert, Update, Migrate, Return, Delete, Move, Reuse, RowPart, ReuseRecord}
 use Rattle.redo_model.specs.Model.{Step, row_step, move_step, ended_in, is_active, entry_of, image, block_of, standing, newest_on, holds_row, IsTable, IsRowBlock, pctfree_of, StatesUndo, MayChange, MayChangeRow, IsFreeFor, InsertAllowed, UpdateAllowed, MigrateAllowed, ReturnAllowed, DeleteAllowed, Enters, IsRowSize, number_or_zero, next_slot, AreAllowed}
-use Rattle.redo_model.specs.Effects.{Adds}
 use Rattle.redo_model.specs.AllowedRows.{migrates_plain, migrates_again, deletes_plain, deletes_migrated}
 use Rattle.redo_laws.proofs.allowed.AllKinds.{shape_of}
 use Rattle.redo_laws.proofs.allowed.Shapes.{AllPut, target_reusable}
@@ -12,6 +11,7 @@ use Rattle.redo_laws.proofs.numbers.TxnTable.{txn_table}
 use Rattle.redo_laws.proofs.room.RoomLaw.{blocks_have_room}
 use Rattle.redo_laws.proofs.space.Places.{segments}
 use Rattle.redo_laws.proofs.steps.ImageFacts.{IsKept, NewHave, Puts, all_have}
+use Rattle.redo_laws.proofs.steps.NewImages.{of_step}
 use Rattle.change_laws.specs.Drafts.{RowKind, Updates, Migrates, Returns, Deletes, Change, Fill, entry_by, parts_of, fills_size, body_at, Stand, Whole, Apart, holder_of, free_place, insert_of, update_of, migrate_fills, migrate_of, return_of, delete_fills, delete_of}
 use Rattle.change_laws.specs.Ready.{lacks_entry, first_lacking, blocks_at, Path, InPlace, ToHead, ToOther, fits_at, path_past, path_of, StandsAt, MayInsert, MayWrite, MayUpdate, MayReturn, MayMigrate, MayDelete, updated_blocks, UpdateGoes, UpdatesGo}
 use Rattle.change_laws.specs.Allowed.{InsertsAreReady, UpdatesAreReady, MigratesAreReady, ReturnsAreReady, DeletesAreReady}
@@ -33,19 +33,13 @@ put_bare : (R : List Record) (st : Step) (i : ℕ) (ps : List RowPart) → AllPu
 put_bare R st i [] h = tt
 put_bare R st i (p ∷ ps) h = (h.0.none, put_bare R st (suc i) ps h.1)
 
-same_step : (s t : Step) → Adds s ≡ Adds t → s ≡ t
-same_step s t e = cc
-
-of_step : (s t : Step) → Adds s ≡ Adds t → NewHave NoBytes s.parts → NewHave NoBytes t.parts
-of_step s t e h = subst (λ (x : Step). NewHave NoBytes x.parts) (same_step s t e) h
-
 bare_puts : (sh : Shape) → Puts sh NoBytes
-bare_puts sh R (Insert w) st h e a = of_step (row_step w false) st e (put_bare R (row_step w false) 0 w.parts (shape_of sh R (Insert w) (segments sh R h.0) h.1.kind).puts)
-bare_puts sh R (Update w) st h e a = of_step (row_step w false) st e (put_bare R (row_step w false) 0 w.parts (shape_of sh R (Update w) (segments sh R h.0) h.1.kind).shape.puts)
-bare_puts sh R (Migrate w) st h e a = of_step (row_step w false) st e (put_bare R (row_step w false) 0 w.parts (shape_of sh R (Migrate w) (segments sh R h.0) h.1.kind).shape.puts)
-bare_puts sh R (Return w) st h e a = of_step (row_step w false) st e (put_bare R (row_step w false) 0 w.parts (shape_of sh R (Return w) (segments sh R h.0) h.1.kind).shape.puts)
-bare_puts sh R (Delete w) st h e a = of_step (row_step w true) st e (put_bare R (row_step w true) 0 w.parts (shape_of sh R (Delete w) (segments sh R h.0) h.1.kind).shape.puts)
-bare_puts sh R (Move m) st h e a = of_step (move_step m) st e (put_bare R (move_step m) 0 m.parts (shape_of sh R (Move m) (segments sh R h.0) h.1.kind).shape.puts)
+bare_puts sh R (Insert w) st h e a = of_step NoBytes (row_step w false) st e (put_bare R (row_step w false) 0 w.parts (shape_of sh R (Insert w) (segments sh R h.0) h.1.kind).puts)
+bare_puts sh R (Update w) st h e a = of_step NoBytes (row_step w false) st e (put_bare R (row_step w false) 0 w.parts (shape_of sh R (Update w) (segments sh R h.0) h.1.kind).shape.puts)
+bare_puts sh R (Migrate w) st h e a = of_step NoBytes (row_step w false) st e (put_bare R (row_step w false) 0 w.parts (shape_of sh R (Migrate w) (segments sh R h.0) h.1.kind).shape.puts)
+bare_puts sh R (Return w) st h e a = of_step NoBytes (row_step w false) st e (put_bare R (row_step w false) 0 w.parts (shape_of sh R (Return w) (segments sh R h.0) h.1.kind).shape.puts)
+bare_puts sh R (Delete w) st h e a = of_step NoBytes (row_step w true) st e (put_bare R (row_step w true) 0 w.parts (shape_of sh R (Delete w) (segments sh R h.0) h.1.kind).shape.puts)
+bare_puts sh R (Move m) st h e a = of_step NoBytes (move_step m) st e (put_bare R (move_step m) 0 m.parts (shape_of sh R (Move m) (segments sh R h.0) h.1.kind).shape.puts)
 bare_puts sh R _ st h e a = absurd cc
 
 -- the slot that a new row takes has no bytes, and any slot has at most 1,800

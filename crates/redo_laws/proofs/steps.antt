@@ -6,3 +6,4 @@ pub mod Held
 pub mod Beyond
 pub mod After
 pub mod ImageFacts
+pub mod NewImages

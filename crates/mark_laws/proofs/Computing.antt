@@ -18,6 +18,7 @@ searches_right = record {
   hinted = refl;
   hint_of_no_extent = refl;
   too_long = refl;
+  why = refl;
   kept_as_full = refl;
   mark_before_full = refl;
   full_at_last = refl;

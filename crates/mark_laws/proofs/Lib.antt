@@ -5,5 +5,6 @@ pub mod TablesThere
 pub mod SameRecords
 pub mod MovesLaw
 pub mod SearchesLaw
+pub mod RefusalsLaw
 pub mod ThereLaw
 pub mod Computing

@@ -7,9 +7,11 @@ use Rattle.redo_model.specs.Worked.{small}
 use Rattle.mark_laws.specs.declared.step.MarkStep.{MarkStep}
 use Rattle.mark_laws.specs.declared.step.MarkStep.TheVariants as step
 use Rattle.mark_laws.specs.declared.step.Found.TheVariants as found
+use Rattle.mark_laws.specs.declared.step.Refusal.TheVariants as refusal
 use Rattle.mark_laws.specs.Movements.{least_free, next_mark}
 use Rattle.mark_laws.specs.Drafts.{mark_record, drafted_table, drafted_first}
 use Rattle.mark_laws.specs.Searches.{Sought, find_of}
+use Rattle.mark_laws.specs.Refusals.{refusal_of}
 
 abbrev pub name_t : List ℕ
 name_t = 116 ∷ []
@@ -71,6 +73,7 @@ pub record SearchesRight : Type 0 where
   pub hinted : find_of small (moved 9 made) (row_of 1800) (Some 1) ≡ Some (found.Block 48)
   pub hint_of_no_extent : find_of small (moved 9 made) (row_of 1800) (Some 2) ≡ Some (found.Block 43)
   pub too_long : find_of small filled (row_of 2000) None ≡ None
+  pub why : refusal_of filled (row_of 2000) ≡ refusal.NoSpace 2000
   pub kept_as_full : find_of small (kept_full (43 ∷ []) filled) (row_of 1800) None ≡ Some (found.Block 44)
   pub mark_before_full : find_of small (kept_full (43 ∷ []) formatted) (row_of 1800) None ≡ Some (found.Mark (step.Format 44))
   pub full_at_last : find_of small all_kept_full (row_of 1800) None ≡ Some (found.Block 43)

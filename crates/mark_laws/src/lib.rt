@@ -4,13 +4,14 @@
 
 ghost use Rattle.mark_laws.specs.Moves.{MarksAreAllowed, MovementsAreAllowed, TablesAreMade};
 ghost use Rattle.mark_laws.specs.Movements.{NextMarksMean};
+ghost use Rattle.mark_laws.specs.Refusals.{RefusalsMean};
 ghost use Rattle.mark_laws.specs.Searches.{FoundTakes, SearchesMean};
 ghost use Rattle.mark_laws.specs.There.{CodesTell, TablesHaveExtents, UnformattedFromLow};
 ghost use Rattle.mark_laws.specs.Worked.{NewTableRight, SearchesRight};
 
 mod step;
 
-pub use step::{Found, MarkStep};
+pub use step::{Found, MarkStep, Refusal};
 
 /// Each movement of a table's marks is the next one exactly where its own condition holds, and there is none exactly where all
 /// data blocks are under the high mark and formatted, and the table has 900 extents or none is free.
@@ -38,6 +39,12 @@ pub fn movements_are_allowed()
 /// move.
 pub fn searches_mean()
     ensures { SearchesMean }
+{}
+
+/// A search that is refused is so by one refusal: for want of space where the table has fewer than 900 extents and none is free,
+/// else since it has 900.
+pub fn refusals_mean()
+    ensures { RefusalsMean }
 {}
 
 /// A block that a search gives is a formatted block of the table under its high mark that takes the row.

@@ -20,3 +20,12 @@ pub enum Found {
     /// No such block yet: the marks have to be moved first.
     Mark(MarkStep),
 }
+
+/// Why a search for a block is refused: no block takes the row, and the marks can't move.
+#[derive(Clone, Copy, Debug, PartialEq, Eq, Drop)]
+pub enum Refusal {
+    /// No extent is free; a row of this length was to be placed.
+    NoSpace { need: u16 },
+    /// The table has so many extents, as many as one may have.
+    MaxExtents { count: u16 },
+}

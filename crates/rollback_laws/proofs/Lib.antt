@@ -1,0 +1,5 @@
+pub mod Rolling
+pub mod Counts
+pub mod StepsLaw
+pub mod ClosingLaw
+pub mod GoesOnLaw

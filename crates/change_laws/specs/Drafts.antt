@@ -3,7 +3,7 @@
 -- engine's own; that rows are migrated whole is Oracle Database Concepts, "Chained and Migrated Rows".
 use Rattle.std.specs.Prelude.{ℕ, suc, ◌+◌, List, [], ◌∷◌, length, Option, Some, None}
 use Rattle.seg_words.specs.Types.{Rowid, UndoAddr, By, Taker, New, Open, next_room, entry_for, other_entry, UNDO_PART_SIZE}
-use Rattle.redo_model.specs.Records.{Record, Insert, Update, Migrate, Return, Delete, RowPart, RowBody, ReuseRecord}
+use Rattle.redo_model.specs.Records.{Record, Insert, Update, Migrate, Return, Delete, RowPart, RowBody, BeginRecord, ReuseRecord}
 use Rattle.redo_model.specs.Model.{part_addr, row_count, ended_in, entry_of, last_undo, image, block_of, undo_sequence, Content, nothing, plain_row, head_to, body_of, image_with, with_bytes, next_slot, place_of_undo, at_place, number_or_zero}
 
 -- the Reuse of an undo block

@@ -1,4 +1,2 @@
 pub mod Drafting
-pub mod Looked
 pub mod Truth
-pub mod Added

@@ -4,7 +4,8 @@ ghost use Rattle.redo_model.specs.Records.{Movement as MovementOf, Record};
 ghost use Rattle.redo_model.specs.Model.{IsTable};
 ghost use Rattle.mark_laws.specs.Drafts.{drafted_movement, mark_record};
 ghost use Rattle.mark_laws.specs.Movements.{next_mark};
-ghost use Rattle.mark_move.specs.Adding.{Adds};
+ghost use Rattle.store_core.specs.Adding.{Adds, HasTried};
+ghost use Rattle.store_core.specs.Store.{IsTrue};
 
 use crate::adding::add;
 use crate::recording::mark_record_of;
@@ -17,7 +18,8 @@ use store_core::{Store, StoreFault};
 
 /// Turns the row movement of a table on or off, by one record. The table is there.
 pub fn movement<D: Disk>(store: &mut Store<D>, obj: Obj, on: bool) -> Result<(), StoreFault>
-    ensures { Adds D.meaning store.old store.new result (λ R. IsTable R obj) (λ R. MovementOf (drafted_movement store.old.shape R obj on) ∷ R) }
+    ensures adds { (R : List Record) → IsTrue D.meaning R store.old → IsTable R obj → Adds D.meaning R (MovementOf (drafted_movement store.old.shape R obj on) ∷ R) store.old store.new result }
+    ensures tried { HasTried D.meaning store.old store.new result }
 {
     match read_segment(store, obj) {
         Ok(segment) => add(store, &Record::Movement(draft_movement(&segment, on))),
@@ -27,7 +29,8 @@ pub fn movement<D: Disk>(store: &mut Store<D>, obj: Obj, on: bool) -> Result<(),
 
 /// Moves the marks of a table, by one record. The table is there, and this is the next movement of its marks.
 pub fn step<D: Disk>(store: &mut Store<D>, obj: Obj, step: MarkStep) -> Result<(), StoreFault>
-    ensures { Adds D.meaning store.old store.new result (λ R. IsTable R obj × (next_mark store.old.shape R obj ≡ Some step)) (λ R. mark_record store.old.shape R obj step ∷ R) }
+    ensures adds { (R : List Record) → IsTrue D.meaning R store.old → IsTable R obj → next_mark store.old.shape R obj ≡ Some step → Adds D.meaning R (mark_record store.old.shape R obj step ∷ R) store.old store.new result }
+    ensures tried { HasTried D.meaning store.old store.new result }
 {
     match mark_record_of(store, obj, step) {
         Ok(rec) => add(store, &rec),

@@ -1,6 +1,8 @@
+pub mod Additions
 pub mod Committing
 pub mod Counting
 pub mod Looking
+pub mod Lookups
 pub mod LogRead
 pub mod Prepared
 pub mod Surviving

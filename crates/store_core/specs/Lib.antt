@@ -3,3 +3,4 @@ pub mod Survives
 pub mod Causes
 pub mod Refused
 pub mod Preparing
+pub mod Adding

@@ -13,6 +13,7 @@ ghost use Rattle.page_map.specs.Pages.{HasPages, AreFit, Leads, made, page_at};
 ghost use Rattle.page_map.specs.declared.fault.PageFault.TheVariants as pages_fault;
 ghost use Rattle.store_core.specs.Store.{HasList, IsTrue, SameLoan};
 ghost use Rattle.store_core.specs.Survives.{Survives};
+ghost use Rattle.store_core.specs.Adding.{Adds, HasTried};
 ghost use Rattle.store_core.specs.Causes.{HasCause, IsSoundFault, lasting_fault};
 ghost use Rattle.store_core.specs.declared.fault.StoreFault.TheVariants as faults;
 
@@ -74,6 +75,8 @@ impl<'a, D: Disk> Store<'a, D> {
 
     /// Adds a record that is allowed, and calls for no other: no Table and no Reuse. On a true store `BadPage` never comes.
     pub fn record(&mut self, rec: &Record) -> Result<Lsn, StoreFault>
+        ensures adds { (R : List Record) → IsTrue D.meaning R self.old → IsLawful self.old.shape (rec.now ∷ R) → Adds D.meaning R (rec.now ∷ R) self.old self.new result }
+        ensures tried { HasTried D.meaning self.old self.new result }
         ensures added { (R : List Record) → IsTrue D.meaning R self.old → IsLawful self.old.shape (rec.now ∷ R) → OnOk result (IsTrue D.meaning (rec.now ∷ R) self.new) }
         ensures number { (R : List Record) → IsTrue D.meaning R self.old → IsLawful self.old.shape (rec.now ∷ R) → IfOk result (λ lsn. lsn ≡ suc (length R)) }
         ensures refused { (R : List Record) → IsTrue D.meaning R self.old → OnErr result (IsTrue D.meaning R self.new) }
@@ -90,6 +93,8 @@ impl<'a, D: Disk> Store<'a, D> {
     /// Adds a Table with its first Extend, or a Reuse with the record that calls for it, in one group, or neither. Both are
     /// allowed. On a true store `BadPage` never comes. Answers the number of the second.
     pub fn record_two(&mut self, first: &Record, second: &Record) -> Result<Lsn, StoreFault>
+        ensures adds { (R : List Record) → IsTrue D.meaning R self.old → IsLawful self.old.shape (second.now ∷ first.now ∷ R) → is_whole (first.now ∷ R) ≡ false → Adds D.meaning R (second.now ∷ first.now ∷ R) self.old self.new result }
+        ensures tried { HasTried D.meaning self.old self.new result }
         ensures added { (R : List Record) → IsTrue D.meaning R self.old → IsLawful self.old.shape (second.now ∷ first.now ∷ R)
             → OnOk result (IsTrue D.meaning (second.now ∷ first.now ∷ R) self.new) }
         ensures number { (R : List Record) → IsTrue D.meaning R self.old → IsLawful self.old.shape (second.now ∷ first.now ∷ R) → IfOk result (λ lsn. lsn ≡ suc (suc (length R))) }

@@ -16,11 +16,11 @@ use Rattle.store_core.specs.Causes.{HasLooked, IsSoundFault}
 use Rattle.store_core.specs.declared.fault.StoreFault.{StoreFault}
 use Rattle.txn_end.specs.declared.standing.Standing.{Standing}
 use Rattle.txn_end.specs.Reading.{standing_in, part_in}
-use Rattle.txn_end.specs.Making.{Makes}
+use Rattle.store_core.specs.Adding.{Adds}
 use Rattle.txn_end.specs.Backing.{blocks_of_parts, IsFirst, IsFirstOf}
 use Rattle.txn_end.proofs.Given.{part_given}
 use Rattle.txn_end.proofs.EndBack.{standing_is}
-use Rattle.txn_end.proofs.Made.{made_on, made_same}
+use Rattle.store_core.proofs.Additions.{adds_on, adds_same, adds_told}
 use Rattle.txn_end.proofs.Taking.{part_is}
 
 -- ---- the first part
@@ -94,12 +94,10 @@ pub told : {D : Type 0} (meaning : Meaning D) (a : Held D) (R : List Record) (t 
 told meaning a R t st h on e = backs_are_told a.shape R t st h.list.within h.lawful.allowed on e
 
 pub take_makes : {D : Type 0} (meaning : Meaning D) (a b c : Held D) (k : BackRecord) (r : Result (Unit {0}) StoreFault) (R : List Record) (t : ℕ) (st : Step) → IsTrue meaning R a → is_active R t ≡ true → newest_of (standing R) t ≡ Some st → HasLooked {T = BackRecord} meaning a b (Ok k) → k ≡ back_of R t st
-    → ((Q : List Record) → IsTrue meaning Q b → IsLawful b.shape (Back k ∷ Q) → Makes meaning Q (Back k ∷ Q) b c r)
-    → Makes meaning R (Back (back_of R t st) ∷ R) a c r
+    → ((Q : List Record) → IsTrue meaning Q b → IsLawful b.shape (Back k ∷ Q) → Adds meaning Q (Back k ∷ Q) b c r)
+    → Adds meaning R (Back (back_of R t st) ∷ R) a c r
 take_makes meaning a b c k r R t st h on e p same adds =
-    let still = p.stays_true R h in
-    let lawful : IsLawful b.shape (Back k ∷ R) = subst (λ (x : BackRecord). IsLawful b.shape (Back x ∷ R)) (sym same) (back_lawful b.shape R t st still.lawful on e) in
-    made_on meaning a b c k r R _ h p (subst (λ (x : BackRecord). Makes meaning R (Back x ∷ R) b c r) same (adds R still lawful))
+    adds_told meaning a b c k r (Back (back_of R t st)) (Back k) R h p (ap (λ (x : BackRecord). Back x) same) (back_lawful a.shape R t st h.lawful on e) adds
 
 -- ---- the step
 
@@ -125,16 +123,16 @@ newest_is meaning a R t at x h on e n = newest_with R t at (newest_of (standing 
 pub entry_is : {D : Type 0} (meaning : Meaning D) (a : Held D) (R : List Record) (t : ℕ) (x : Standing) → IsTrue meaning R a → is_active R t ≡ true → standing_in (page_of a.shape R 1) t ≡ Some x → x.entry ≡ table_place R t
 entry_is meaning a R t x h on e = ap (λ (s : Standing). s.entry) (standing_is meaning a R t x h on e)
 
-pub step_none : {D T : Type 0} (meaning : Meaning D) (a b : Held D) (x : Standing) (y : T) (R : List Record) (t : ℕ) → IsTrue meaning R a → HasLooked {T = Standing} meaning a b (Ok x) → newest_of (standing R) t ≡ None → Makes {T = T} meaning R (backed R t) a b (Ok y)
-step_none meaning a b x y R t h p e = subst (λ (o : Option Step). Makes meaning R (backed_with R t o) a b (Ok y)) (sym e) (made_same meaning a b x y R h p)
+pub step_none : {D T : Type 0} (meaning : Meaning D) (a b : Held D) (x : Standing) (y : T) (R : List Record) (t : ℕ) → IsTrue meaning R a → HasLooked {T = Standing} meaning a b (Ok x) → newest_of (standing R) t ≡ None → Adds {T = T} meaning R (backed R t) a b (Ok y)
+step_none meaning a b x y R t h p e = subst (λ (o : Option Step). Adds meaning R (backed_with R t o) a b (Ok y)) (sym e) (adds_same meaning a b x y R h p)
 
 pub step_some : {D T : Type 0} (meaning : Meaning D) (a b c : Held D) (x : Standing) (r : Result T StoreFault) (R : List Record) (t : ℕ) (at : UndoAddr) → IsTrue meaning R a → is_active R t ≡ true → HasLooked {T = Standing} meaning a b (Ok x) → standing_in (page_of a.shape R 1) t ≡ Some x → x.last ≡ Some at
-    → ((Q : List Record) (st : Step) → IsTrue meaning Q b → is_active Q t ≡ true → newest_of (standing Q) t ≡ Some st → st.undo ≡ at → x.entry ≡ table_place Q t → Makes meaning Q (Back (back_of Q t st) ∷ Q) b c r)
-    → Makes meaning R (backed R t) a c r
+    → ((Q : List Record) (st : Step) → IsTrue meaning Q b → is_active Q t ≡ true → newest_of (standing Q) t ≡ Some st → st.undo ≡ at → x.entry ≡ table_place Q t → Adds meaning Q (Back (back_of Q t st) ∷ Q) b c r)
+    → Adds meaning R (backed R t) a c r
 step_some meaning a b c x r R t at h on p e n takes =
     let w = newest_is meaning a R t at x h on e n in
     let m = takes R w.step (p.stays_true R h) on w.is w.undo (entry_is meaning a R t x h on e) in
-    subst (λ (o : Option Step). Makes meaning R (backed_with R t o) a c r) (sym w.is) (made_on meaning a b c x r R _ h p m)
+    subst (λ (o : Option Step). Adds meaning R (backed_with R t o) a c r) (sym w.is) (adds_on meaning a b c x r R _ h p m)
 
 pub step_blocks : {D : Type 0} (meaning : Meaning D) (a b : Held D) (x : Standing) (bs : List ℕ) (R : List Record) (t : ℕ) (at : UndoAddr) → IsTrue meaning R a → is_active R t ≡ true → HasLooked {T = Standing} meaning a b (Ok x) → standing_in (page_of a.shape R 1) t ≡ Some x → x.last ≡ Some at
     → ((Q : List Record) (st : Step) → IsTrue meaning Q b → is_active Q t ≡ true → newest_of (standing Q) t ≡ Some st → st.undo ≡ at → x.entry ≡ table_place Q t → bs ≡ blocks_in st.parts)

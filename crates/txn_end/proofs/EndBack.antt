@@ -13,9 +13,9 @@ use Rattle.store_core.specs.Causes.{HasLooked, IsSoundFault}
 use Rattle.store_core.specs.declared.fault.StoreFault.{StoreFault}
 use Rattle.txn_end.specs.declared.standing.Standing.{Standing}
 use Rattle.txn_end.specs.Reading.{standing_in}
-use Rattle.txn_end.specs.Making.{Makes}
+use Rattle.store_core.specs.Adding.{Adds}
 use Rattle.txn_end.proofs.Given.{standing_given}
-use Rattle.txn_end.proofs.Made.{made_on}
+use Rattle.store_core.proofs.Additions.{adds_told}
 
 same_standing : (x y : Standing) → ◌≡◌ {A = Option Standing} (Some x) (Some y) → x ≡ y
 same_standing x y e = cc
@@ -25,10 +25,8 @@ pub standing_is : {D : Type 0} (meaning : Meaning D) (a : Held D) (R : List Reco
 standing_is meaning a R t x h on e = same_standing x _ (sym e ∙ standing_given a.shape R t h.list.within h.lawful on)
 
 pub end_makes : {D : Type 0} (meaning : Meaning D) (a b c : Held D) (x : Standing) (r : Result (Unit {0}) StoreFault) (R : List Record) (t : ℕ) → IsTrue meaning R a → MayEnd R t → HasLooked {T = Standing} meaning a b (Ok x) → standing_in (page_of a.shape R 1) t ≡ Some x
-    → ((Q : List Record) → IsTrue meaning Q b → IsLawful b.shape (Ended (record { txn = t; entry = x.entry }) ∷ Q) → Makes meaning Q (Ended (record { txn = t; entry = x.entry }) ∷ Q) b c r)
-    → Makes meaning R (Ended (ended_of R t) ∷ R) a c r
+    → ((Q : List Record) → IsTrue meaning Q b → IsLawful b.shape (Ended (record { txn = t; entry = x.entry }) ∷ Q) → Adds meaning Q (Ended (record { txn = t; entry = x.entry }) ∷ Q) b c r)
+    → Adds meaning R (Ended (ended_of R t) ∷ R) a c r
 end_makes meaning a b c x r R t h may p says adds =
     let e : x.entry ≡ table_place R t = ap (λ (s : Standing). s.entry) (standing_is meaning a R t x h may.active says) in
-    let still = p.stays_true R h in
-    let lawful : IsLawful b.shape (Ended (record { txn = t; entry = x.entry }) ∷ R) = subst (λ (i : ℕ). IsLawful b.shape (Ended (record { txn = t; entry = i }) ∷ R)) (sym e) (ends_are_allowed b.shape R t still.lawful may) in
-    made_on meaning a b c x r R _ h p (subst (λ (i : ℕ). Makes meaning R (Ended (record { txn = t; entry = i }) ∷ R) b c r) e (adds R still lawful))
+    adds_told meaning a b c x r (Ended (ended_of R t)) (Ended (record { txn = t; entry = x.entry })) R h p (ap (λ (i : ℕ). Ended (record { txn = t; entry = i })) e) (ends_are_allowed a.shape R t h.lawful may) adds

@@ -18,10 +18,10 @@ use Rattle.store_core.specs.Store.{Held, IsTrue, has_page}
 use Rattle.store_core.specs.Causes.{HasLooked, IsSoundFault}
 use Rattle.store_core.specs.declared.fault.StoreFault.{StoreFault}
 use Rattle.txn_end.specs.Reading.{row_with, row_in, header_in, extent_in}
-use Rattle.txn_end.specs.Making.{Owns}
+use Rattle.txn_end.specs.Owning.{Owns}
 use Rattle.txn_end.specs.Backing.{back_part_of, blocks_of_parts, IsFirst, IsFirstOf}
 use Rattle.txn_end.proofs.Given.{row_given, header_given, no_header_given, extent_given, header_there, tables_few, rows_there}
-use Rattle.txn_end.proofs.Looked.{looked_on, looked_ok, looked_err}
+use Rattle.store_core.proofs.Lookups.{looked_on, looked_ok, looked_err}
 use Rattle.txn_end.proofs.Taking.{told_later}
 
 -- nothing was asked yet

@@ -1,5 +1,3 @@
-pub mod Looked
-pub mod Made
 pub mod Given
 pub mod EndBack
 pub mod Taking

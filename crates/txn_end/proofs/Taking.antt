@@ -19,7 +19,7 @@ use Rattle.store_core.specs.Store.{Held, IsTrue, SameLoan, has_page}
 use Rattle.store_core.specs.Causes.{HasLooked, IsSoundFault}
 use Rattle.store_core.specs.declared.fault.StoreFault.{StoreFault}
 use Rattle.txn_end.specs.Reading.{part_in, sequence_in, entry_in, row_with, row_in, header_in, extent_in}
-use Rattle.txn_end.specs.Making.{Makes, Owns}
+use Rattle.txn_end.specs.Owning.{Owns}
 use Rattle.txn_end.specs.Backing.{back_part_of, blocks_of_parts, IsFirst, IsFirstOf}
 use Rattle.txn_end.proofs.Given.{part_given, sequence_given, entry_given, row_given, header_given, no_header_given, extent_given, tables_few, rows_there, undo_there}
 

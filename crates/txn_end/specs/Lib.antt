@@ -1,3 +1,3 @@
 pub mod Reading
-pub mod Making
+pub mod Owning
 pub mod Backing

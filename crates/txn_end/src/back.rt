@@ -7,7 +7,7 @@ ghost use Rattle.end_laws.specs.Types.{BackTold, back_of, backed, blocks_in, blo
 ghost use Rattle.version_laws.specs.Types.{IsInUse};
 ghost use Rattle.store_core.specs.Causes.{HasCause, HasLooked, IsSoundFault};
 ghost use Rattle.store_core.specs.Store.{IsTrue, SameLoan};
-ghost use Rattle.txn_end.specs.Making.{Makes};
+ghost use Rattle.store_core.specs.Adding.{Adds};
 ghost use Rattle.txn_end.specs.Backing.{back_part_of, blocks_of_parts, IsFirst};
 
 use crate::asking::ask;
@@ -217,7 +217,7 @@ fn take_back<D: Disk>(
     entry: u8,
     at: UndoAddr,
 ) -> Result<Sequence<Dba>, StoreFault>
-    ensures makes { (R : List Record) (st : Step) → IsTrue D.meaning R store.old → is_active R txn ≡ true → newest_of (standing R) txn ≡ Some st → st.undo ≡ at → entry ≡ table_place R txn → Makes D.meaning R (Back (back_of R txn st) ∷ R) store.old store.new result }
+    ensures makes { (R : List Record) (st : Step) → IsTrue D.meaning R store.old → is_active R txn ≡ true → newest_of (standing R) txn ≡ Some st → st.undo ≡ at → entry ≡ table_place R txn → Adds D.meaning R (Back (back_of R txn st) ∷ R) store.old store.new result }
     ensures answer { (R : List Record) (st : Step) → IsTrue D.meaning R store.old → is_active R txn ≡ true → newest_of (standing R) txn ≡ Some st → st.undo ≡ at → entry ≡ table_place R txn → IfOk result (λ blocks. blocks ≡ blocks_in st.parts) }
     ensures loan { SameLoan D.meaning store.old store.new }
     ensures cause { HasCause D.meaning store.old store.new result }
@@ -243,7 +243,7 @@ pub fn back_step<D: Disk>(
     store: &mut Store<D>,
     txn: TxnId,
 ) -> Result<Option<Sequence<Dba>>, StoreFault>
-    ensures makes { (R : List Record) → IsTrue D.meaning R store.old → is_active R txn ≡ true → Makes D.meaning R (backed R txn) store.old store.new result }
+    ensures makes { (R : List Record) → IsTrue D.meaning R store.old → is_active R txn ≡ true → Adds D.meaning R (backed R txn) store.old store.new result }
     ensures answer { (R : List Record) → IsTrue D.meaning R store.old → is_active R txn ≡ true → IfOk result (λ blocks. blocks ≡ blocks_of_step (newest_of (standing R) txn)) }
     ensures loan { SameLoan D.meaning store.old store.new }
     ensures cause { HasCause D.meaning store.old store.new result }

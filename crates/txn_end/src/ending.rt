@@ -7,7 +7,7 @@ ghost use Rattle.store_core.specs.Causes.{HasCause};
 ghost use Rattle.store_core.specs.declared.fault.StoreFault.TheVariants as faults;
 ghost use Rattle.store_core.specs.Store.{HasList, IsTrue, SameLoan};
 ghost use Rattle.store_core.specs.Survives.{Survives};
-ghost use Rattle.txn_end.specs.Making.{Makes};
+ghost use Rattle.store_core.specs.Adding.{Adds};
 
 use crate::asking::ask;
 use crate::standing::StandingOf;
@@ -22,7 +22,7 @@ pub const TXN_TABLE: Dba = Dba(TXN_TABLE_BLOCK);
 
 /// Adds a record that is allowed, and calls for no other.
 pub fn add<D: Disk>(store: &mut Store<D>, rec: &Record) -> Result<(), StoreFault>
-    ensures makes { (R : List Record) → IsTrue D.meaning R store.old → IsLawful store.old.shape (rec.now ∷ R) → Makes D.meaning R (rec.now ∷ R) store.old store.new result }
+    ensures makes { (R : List Record) → IsTrue D.meaning R store.old → IsLawful store.old.shape (rec.now ∷ R) → Adds D.meaning R (rec.now ∷ R) store.old store.new result }
     ensures loan { SameLoan D.meaning store.old store.new }
     ensures cause { HasCause D.meaning store.old store.new result }
 {
@@ -34,7 +34,7 @@ pub fn add<D: Disk>(store: &mut Store<D>, rec: &Record) -> Result<(), StoreFault
 
 /// Ends the rollback of an active transaction of which no record is left.
 pub fn end_back<D: Disk>(alloc: Global, store: &mut Store<D>, txn: TxnId) -> Result<(), StoreFault>
-    ensures makes { (R : List Record) → IsTrue D.meaning R store.old → MayEnd R txn → Makes D.meaning R (Ended (ended_of R txn) ∷ R) store.old store.new result }
+    ensures makes { (R : List Record) → IsTrue D.meaning R store.old → MayEnd R txn → Adds D.meaning R (Ended (ended_of R txn) ∷ R) store.old store.new result }
     ensures loan { SameLoan D.meaning store.old store.new }
     ensures cause { HasCause D.meaning store.old store.new result }
 {

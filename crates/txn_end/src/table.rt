@@ -7,7 +7,7 @@ ghost use Rattle.redo_laws.specs.Apart.{HasExtent};
 ghost use Rattle.end_laws.specs.Types.{extent_number};
 ghost use Rattle.store_core.specs.Causes.{HasLooked, IsSoundFault};
 ghost use Rattle.store_core.specs.Store.{IsTrue};
-ghost use Rattle.txn_end.specs.Making.{Owns, Tells};
+ghost use Rattle.txn_end.specs.Owning.{Owns, Tells};
 ghost use Rattle.txn_end.specs.Reading.{header_in, has_number, number_is, extent_in};
 ghost use Rattle.segment_blocks.specs.Types.{extent_at};
 

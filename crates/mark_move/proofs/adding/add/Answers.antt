@@ -1,31 +1,15 @@
-use Rattle.std.proofs.Common.{List, ◌∷◌, ℕ}
-use Rattle.redo_model.specs.Records.{Record}
-use Rattle.redo_model.specs.Model.{IsLawful}
-use Rattle.mark_move.proofs.Added.{ok_added, err_added}
+use Rattle.std.proofs.Common.{◌∷◌, ℕ}
+use Rattle.store_core.proofs.Additions.{adds_ok, adds_err, tried_ok, tried_err}
 use Rattle.mark_move.proofs.adding.add.Goals as goal
 
-pub returns-in-Ok : goal.returns-in-Ok
-returns-in-Ok g c = ok_added {A = ℕ} {T = Unit {0}} g.D.Disk.meaning c.args.store.now c.record.new.self c.in-Ok.field-0 tt (λ (R : List Record). IsLawful c.args.store.now.shape (c.args.rec.now ∷ R)) (λ (R : List Record). c.args.rec.now ∷ R)
-    (record {
-      added = λ R t m. c.in-Ok.ensures.added R t m;
-      refused = λ R t. c.in-Ok.ensures.refused R t;
-      sound = λ R t m n. c.in-Ok.ensures.sound R t m n;
-      survives = λ since needed R t m s. c.in-Ok.ensures.survives since needed R t s;
-      survives_refused = λ since needed R t s. c.in-Ok.ensures.survives_refused since needed R t s;
-      stable = λ R h. c.in-Ok.ensures.stable R h;
-      loan = c.in-Ok.ensures.loan;
-      cause = c.in-Ok.ensures.cause;
-    })
+pub returns-in-Ok-clause-adds : goal.returns-in-Ok-clause-adds
+returns-in-Ok-clause-adds g c = λ R t lawful. adds_ok {A = ℕ} g.D.Disk.meaning c.args.store.now c.record.new.self c.in-Ok.field-0 tt R (c.args.rec.now ∷ R) (c.in-Ok.ensures.adds R t lawful)
 
-pub returns-in-Err : goal.returns-in-Err
-returns-in-Err g c = err_added {A = ℕ} {T = Unit {0}} g.D.Disk.meaning c.args.store.now c.record.new.self c.in-Err.fault (λ (R : List Record). IsLawful c.args.store.now.shape (c.args.rec.now ∷ R)) (λ (R : List Record). c.args.rec.now ∷ R)
-    (record {
-      added = λ R t m. c.in-Err.ensures.added R t m;
-      refused = λ R t. c.in-Err.ensures.refused R t;
-      sound = λ R t m n. c.in-Err.ensures.sound R t m n;
-      survives = λ since needed R t m s. c.in-Err.ensures.survives since needed R t s;
-      survives_refused = λ since needed R t s. c.in-Err.ensures.survives_refused since needed R t s;
-      stable = λ R h. c.in-Err.ensures.stable R h;
-      loan = c.in-Err.ensures.loan;
-      cause = c.in-Err.ensures.cause;
-    })
+pub returns-in-Ok-clause-tried : goal.returns-in-Ok-clause-tried
+returns-in-Ok-clause-tried g c = tried_ok {A = ℕ} g.D.Disk.meaning c.args.store.now c.record.new.self c.in-Ok.field-0 tt c.in-Ok.ensures.tried
+
+pub returns-in-Err-clause-adds : goal.returns-in-Err-clause-adds
+returns-in-Err-clause-adds g c = λ R t lawful. adds_err {A = ℕ} g.D.Disk.meaning c.args.store.now c.record.new.self c.in-Err.fault R (c.args.rec.now ∷ R) (c.in-Err.ensures.adds R t lawful)
+
+pub returns-in-Err-clause-tried : goal.returns-in-Err-clause-tried
+returns-in-Err-clause-tried g c = tried_err {A = ℕ} g.D.Disk.meaning c.args.store.now c.record.new.self c.in-Err.fault c.in-Err.ensures.tried

@@ -1,6 +1,6 @@
 use Rattle.std.proofs.Common.{sym, ◌∙◌, true≢false}
 use Rattle.mark_move.proofs.Truth.{space_has}
-use Rattle.mark_move.proofs.Looked.{refused_after}
+use Rattle.store_core.proofs.Lookups.{refused_after}
 use Rattle.mark_move.proofs.reading.find_free.Goals as goal
 
 pub returns-in-Err-clause-sound : goal.returns-in-Err-clause-sound

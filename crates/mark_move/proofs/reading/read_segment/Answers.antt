@@ -1,4 +1,4 @@
-use Rattle.mark_move.proofs.Looked.{looked_on}
+use Rattle.store_core.proofs.Lookups.{looked_on}
 use Rattle.mark_move.proofs.reading.read_segment.Goals as goal
 
 pub returns-in-Ok-clause-looked : goal.returns-in-Ok-clause-looked

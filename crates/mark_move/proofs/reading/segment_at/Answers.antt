@@ -1,5 +1,5 @@
 use Rattle.mark_move.proofs.Truth.{header_at_has}
-use Rattle.mark_move.proofs.Looked.{refused_after}
+use Rattle.store_core.proofs.Lookups.{refused_after}
 use Rattle.mark_move.proofs.reading.segment_at.Goals as goal
 
 pub returns-in-Err-clause-sound : goal.returns-in-Err-clause-sound

@@ -1,6 +1,6 @@
 use Rattle.std.proofs.Common.{sym, ◌∙◌, true≢false, ap}
 use Rattle.mark_move.proofs.Truth.{segment_has}
-use Rattle.mark_move.proofs.Looked.{refused_after}
+use Rattle.store_core.proofs.Lookups.{refused_after}
 use Rattle.mark_move.proofs.recording.format_record.Goals as goal
 
 pub returns-in-Err-clause-sound : goal.returns-in-Err-clause-sound

@@ -1,7 +1,7 @@
 use Rattle.std.proofs.Common.{◌≡◌, ℕ, IfOk, sym, ◌∙◌, subst}
 use Rattle.seg_words.specs.Types.{Shape}
 use Rattle.mark_laws.specs.Drafts.{mark_record}
-use Rattle.mark_move.proofs.Looked.{looked_on}
+use Rattle.store_core.proofs.Lookups.{looked_on}
 use Rattle.mark_move.proofs.Truth.{segment_at, next_at}
 use Rattle.mark_move.proofs.recording.mark_record_of.Goals as goal
 

@@ -2,7 +2,7 @@ use Rattle.std.proofs.Common.{◌≡◌, ℕ, IfOk, Some, sym, ◌∙◌, ap, su
 use Rattle.redo_model.specs.Records.{Record, Advance}
 use Rattle.mark_laws.specs.declared.step.MarkStep.{MarkStep}
 use Rattle.mark_laws.specs.Drafts.{mark_record}
-use Rattle.mark_move.proofs.Looked.{looked_same}
+use Rattle.store_core.proofs.Lookups.{looked_same}
 use Rattle.mark_move.proofs.Truth.{index_within, extent_whole, law_at}
 use Rattle.mark_move.proofs.recording.record_of.Goals as goal
 

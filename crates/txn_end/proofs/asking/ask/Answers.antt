@@ -1,5 +1,5 @@
 use Rattle.std.proofs.Common.{Ok, Err}
-use Rattle.txn_end.proofs.Looked.{looked_on, looked_err}
+use Rattle.store_core.proofs.Lookups.{looked_on, looked_err}
 use Rattle.txn_end.proofs.asking.ask.Goals as goal
 
 pub returns-in-Err-clause-sound : goal.returns-in-Err-clause-sound

@@ -1,5 +1,5 @@
 use Rattle.std.proofs.Common.{Ok, Err}
-use Rattle.txn_end.proofs.Looked.{looked_on, looked_ok, looked_err}
+use Rattle.store_core.proofs.Lookups.{looked_on, looked_ok, looked_err}
 use Rattle.txn_end.proofs.Taking.{told_later}
 use Rattle.txn_end.proofs.Backing.{says_record, before_used, back_is}
 use Rattle.txn_end.proofs.back.back_by.Goals as goal

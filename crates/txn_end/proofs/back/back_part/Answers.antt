@@ -1,7 +1,7 @@
 use Rattle.std.proofs.Common.{Ok, Err}
 use Rattle.version_laws.specs.Types.{as_kept}
 use Rattle.end_laws.specs.Types.{held_of, PartTold, BackTold}
-use Rattle.txn_end.proofs.Looked.{looked_on, looked_ok, looked_err}
+use Rattle.store_core.proofs.Lookups.{looked_on, looked_ok, looked_err}
 use Rattle.txn_end.proofs.Taking.{told_later, part_found, undo_found, part_is, entry_found, rows_found, back_part_is}
 use Rattle.txn_end.proofs.back.back_part.Goals as goal
 

@@ -1,6 +1,6 @@
 use Rattle.std.proofs.Common.{Ok}
 use Rattle.redo_model.specs.Records.{BackPart}
-use Rattle.txn_end.proofs.Looked.{looked_on, looked_memory}
+use Rattle.store_core.proofs.Lookups.{looked_on, looked_memory}
 use Rattle.txn_end.proofs.Gathering.{gathered_next, gathered_fails, gathered_sound}
 use Rattle.txn_end.proofs.back.back_parts.Goals as goal
 

@@ -1,7 +1,7 @@
 use Rattle.std.proofs.Common.{Ok, Err, subst, arith, ◌<◌}
 use Rattle.seg_words.proofs.Lemmas.{nat_tests}
 use Rattle.seg_words.specs.Types.{UndoAddr}
-use Rattle.txn_end.proofs.Looked.{looked_on, looked_err}
+use Rattle.store_core.proofs.Lookups.{looked_on, looked_err}
 use Rattle.txn_end.proofs.Taking.{told_later, undo_found}
 use Rattle.txn_end.proofs.Backing.{first_is, first_given, says_record}
 use Rattle.txn_end.proofs.back.back_record.Goals as goal

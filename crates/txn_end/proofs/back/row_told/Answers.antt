@@ -1,5 +1,5 @@
 use Rattle.std.proofs.Common.{Ok, Err}
-use Rattle.txn_end.proofs.Looked.{looked_on, looked_ok, looked_err}
+use Rattle.store_core.proofs.Lookups.{looked_on, looked_ok, looked_err}
 use Rattle.txn_end.proofs.Gathering.{first_found, has_found, number_there, row_is}
 use Rattle.txn_end.proofs.Taking.{told_later}
 use Rattle.txn_end.proofs.back.row_told.Goals as goal

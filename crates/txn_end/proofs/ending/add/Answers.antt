@@ -1,21 +1,9 @@
+use Rattle.std.proofs.Common.{◌∷◌, ℕ}
+use Rattle.store_core.proofs.Additions.{adds_ok, adds_err}
 use Rattle.txn_end.proofs.ending.add.Goals as goal
 
 pub returns-in-Ok-clause-makes : goal.returns-in-Ok-clause-makes
-returns-in-Ok-clause-makes g c = λ R t l. record {
-  added = c.in-Ok.ensures.added R t l;
-  refused = tt;
-  sound = λ n. tt;
-  stable = c.in-Ok.ensures.stable R t.list;
-  survives = λ since needed s. c.in-Ok.ensures.survives since needed R t s;
-  survives_refused = λ since needed s. tt;
-}
+returns-in-Ok-clause-makes g c = λ R t lawful. adds_ok {A = ℕ} g.D.Disk.meaning c.args.store.now c.record.new.self c.in-Ok.field-0 tt R (c.args.rec.now ∷ R) (c.in-Ok.ensures.adds R t lawful)
 
 pub returns-in-Err-clause-makes : goal.returns-in-Err-clause-makes
-returns-in-Err-clause-makes g c = λ R t l. record {
-  added = tt;
-  refused = c.in-Err.ensures.refused R t;
-  sound = λ n. c.in-Err.ensures.sound R t l n;
-  stable = c.in-Err.ensures.stable R t.list;
-  survives = λ since needed s. tt;
-  survives_refused = λ since needed s. c.in-Err.ensures.survives_refused since needed R t s;
-}
+returns-in-Err-clause-makes g c = λ R t lawful. adds_err {A = ℕ} g.D.Disk.meaning c.args.store.now c.record.new.self c.in-Err.fault R (c.args.rec.now ∷ R) (c.in-Err.ensures.adds R t lawful)

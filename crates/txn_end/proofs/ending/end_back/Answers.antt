@@ -2,14 +2,14 @@ use Rattle.redo_model.specs.Records.{Ended}
 use Rattle.redo_model.specs.Model.{last_undo}
 use Rattle.end_laws.specs.Types.{ended_of, table_place}
 use Rattle.std.specs.Prelude.{◌∷◌}
-use Rattle.txn_end.proofs.Looked.{loan_on}
-use Rattle.txn_end.proofs.Made.{made_none}
+use Rattle.store_core.proofs.Lookups.{loan_on}
+use Rattle.store_core.proofs.Additions.{adds_none}
 use Rattle.txn_end.proofs.Given.{table_there, standing_given}
 use Rattle.txn_end.proofs.EndBack.{end_makes}
 use Rattle.txn_end.proofs.ending.end_back.Goals as goal
 
 pub returns-in-Err-clause-makes : goal.returns-in-Err-clause-makes
-returns-in-Err-clause-makes g c = λ R t m. made_none g.D.Disk.meaning c.args.store.now c.ask.new.store c.in-Err.fault R (Ended (ended_of R c.args.txn) ∷ R) t c.in-Err.ensures.looked
+returns-in-Err-clause-makes g c = λ R t m. adds_none g.D.Disk.meaning c.args.store.now c.ask.new.store c.in-Err.fault R (Ended (ended_of R c.args.txn) ∷ R) t c.in-Err.ensures.looked
     (λ n. c.in-Err.ensures.sound R (record { entry = table_place R c.args.txn; last = last_undo R c.args.txn }) t n (table_there c.args.store.now.shape t.list.within) (standing_given c.args.store.now.shape R c.args.txn t.list.within t.lawful m.active))
 
 pub returns-clause-makes : goal.returns-clause-makes

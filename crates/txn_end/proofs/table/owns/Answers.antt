@@ -2,7 +2,7 @@ use Rattle.std.proofs.Common.{ℕ, Option, Some, None, Ok, ap, ◌∙◌, subst}
 use Rattle.store_core.specs.Causes.{HasLooked}
 use Rattle.page_set.specs.Folded.{page_of}
 use Rattle.txn_end.specs.Reading.{header_in}
-use Rattle.txn_end.proofs.Looked.{looked_on}
+use Rattle.store_core.proofs.Lookups.{looked_on}
 use Rattle.txn_end.proofs.Given.{catalogue_there}
 use Rattle.txn_end.proofs.Gathering.{can_be_asked, owns_none, owns_says, owns_sound}
 use Rattle.txn_end.proofs.table.owns.Goals as goal

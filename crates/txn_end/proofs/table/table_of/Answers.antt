@@ -1,7 +1,7 @@
 use Rattle.std.proofs.Common.{ℕ, Bool, true, false, Ok, Err, subst}
 use Rattle.store_core.specs.Causes.{HasLooked}
-use Rattle.txn_end.specs.Making.{Owns}
-use Rattle.txn_end.proofs.Looked.{looked_on, looked_ok, looked_err}
+use Rattle.txn_end.specs.Owning.{Owns}
+use Rattle.store_core.proofs.Lookups.{looked_on, looked_ok, looked_err}
 use Rattle.txn_end.proofs.Gathering.{sought_next, sought_found, sought_all}
 use Rattle.txn_end.proofs.table.table_of.Goals as goal
 

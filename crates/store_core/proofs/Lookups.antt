@@ -91,6 +91,23 @@ looked_err meaning a b f p = record {
   survives = p.survives;
 }
 
+-- the call went well, and then memory was wanting
+pub looked_memory : {D A T : Type 0} (meaning : Meaning D) (a b : Held D) (x : A) → HasLooked {T = A} meaning a b (Ok x) → HasLooked {T = T} meaning a b (Err NoMemory)
+looked_memory meaning a b x p = record {
+  loan = p.loan;
+  cause = record {
+    device = λ n e. absurd (cc e);
+    kept = p.cause.kept;
+    goes_on = tt;
+    answers = λ f s. none_some f a.fault p.cause.goes_on s;
+    stays = λ f s. none_some f a.fault p.cause.goes_on s;
+  };
+  list = p.list;
+  stays_true = p.stays_true;
+  stable = p.stable;
+  survives = p.survives;
+}
+
 -- nothing was done
 pub looked_same : {D T : Type 0} (meaning : Meaning D) (s : Held D) (x : T) → s.fault ≡ None → HasLooked {T = T} meaning s s (Ok x)
 looked_same meaning s x none = record {

@@ -1,0 +1,5 @@
+pub mod Passing
+pub mod Targets
+pub mod OneHistory
+mod TwoHistories
+mod RefusedHistories

@@ -1,0 +1,12 @@
+pub mod History
+pub mod Spans
+pub mod Released
+pub mod Causes
+pub mod Order
+pub mod RowMeans
+pub mod TableMeans
+pub mod ShrinkMeans
+pub mod Means
+pub mod Makes
+pub mod Legal
+pub mod Worked

@@ -1,0 +1,24 @@
+//! Legal histories of many sessions, newest first: the starts and entries of a call's statements, what each entry means by the
+//! redo records before its first event and after its last, and to which statement each record belongs. All promises that
+//! speak of sessions are said by these definitions.
+//!
+//! The functions here do nothing. Their contracts are what the definitions say of small histories.
+#![tactic(auto)]
+
+mod history;
+mod limit;
+
+ghost use Rattle.history_model.specs.Worked.{HistoriesAreLegal, HistoriesAreRefused};
+
+pub use history::{HistoryItem, Kept, Settled, Start};
+pub use limit::{MOST_STARTS, NEW_WORK_RECORDS};
+
+/// A session makes a table and a row, commits and scans; two sessions change one row, of which one finds it busy first.
+pub fn small_histories_are_legal()
+    ensures { HistoriesAreLegal }
+{}
+
+/// Told too early, two statements at once, an uncommitted row shown, a session that no script has, a wrong cause.
+pub fn wrong_histories_are_refused()
+    ensures { HistoriesAreRefused }
+{}

@@ -1,5 +1,5 @@
 -- Whether records fit on the pages that they touch, each as the records before it leave them.
-use Rattle.std.specs.Prelude.{◌≡◌, ℕ, suc, ◌<◌, true, List, [], ◌∷◌, ◌++◌, length}
+use Rattle.std.specs.Prelude.{◌≡◌, ◌⊎◌, ℕ, suc, ◌<◌, true, List, [], ◌∷◌, ◌++◌, length}
 use Rattle.seg_base.specs.declared.shape.Shape.{Shape}
 use Rattle.redo_record.specs.declared.record.Record.{Record}
 use Rattle.page_set.specs.declared.page.Page.{Page}
@@ -46,6 +46,16 @@ pub record IsUnfit (sh : Shape) (R : List Record) (r : Record) (d : ℕ) : Type 
 abbrev pub WhyNotAdded : Shape → List Record → Record → PageFault → Type 0
 WhyNotAdded sh R r (BadPage b) = IsUnfit sh R r b
 WhyNotAdded sh R r NoMemory = Unit {0}
+
+-- both records fit, the second as the first leaves the pages
+pub record AreBothFit (sh : Shape) (R : List Record) (first second : Record) : Type 0 where
+  pub first_fits : FitsAll sh R first
+  pub second_fits : FitsAll sh (first ∷ R) second
+
+-- why the two aren't added after the records R: the first doesn't fit, or it does and then the second doesn't
+abbrev pub WhyNotBoth : Shape → List Record → Record → Record → PageFault → Type 0
+WhyNotBoth sh R first second (BadPage b) = IsUnfit sh R first b ⊎ (FitsAll sh R first × IsUnfit sh (first ∷ R) second b)
+WhyNotBoth sh R first second NoMemory = Unit {0}
 
 -- the first of the records that doesn't fit on each page that it touches doesn't fit at block d
 pub record StopsAt (sh : Shape) (records : List Record) (d : ℕ) : Type 0 where

@@ -7,7 +7,7 @@ ghost use Rattle.page_set.specs.Pages.{dba_of};
 ghost use Rattle.page_set.specs.Changes.{changed_page, Fits};
 ghost use Rattle.page_set.specs.Folded.{touched_once};
 ghost use Rattle.page_map.specs.Pages.{page_at, over_in, HasPages, installed, made, AreThere, AreFit, Leads};
-ghost use Rattle.page_map.specs.Fitting.{FitsAt, WhyNotAt, WhyNotAmong, FitsAll, AreAllFit, WhyNotAdded, WhyNotFolded};
+ghost use Rattle.page_map.specs.Fitting.{FitsAt, WhyNotAt, WhyNotAmong, FitsAll, AreAllFit, AreBothFit, WhyNotAdded, WhyNotBoth, WhyNotFolded};
 ghost use Rattle.page_map.specs.declared.fault.PageFault.TheVariants as faults;
 
 use crate::PageFault;
@@ -180,8 +180,9 @@ impl Pages {
         &self.pages[dba.0 as usize]
     }
 
-    /// The pages that the record changes, changed. No page is put into its place.
-    #[tactic(auto, using(crate::proofs::Folding::leads))]
+    /// The pages that the record changes, changed. No page is put into its place. `BadPage` names a block that the record
+    /// touches and that isn't there, or on whose page it doesn't fit.
+    #[tactic(auto, using(crate::proofs::Folding::leads, crate::proofs::Replaying::not_added))]
     pub fn prepare(
         &self,
         alloc: Global,
@@ -193,13 +194,16 @@ impl Pages {
         ensures fits { OnOk result (AreFit rec.now lsn [] self.now (touched_once shape.now rec.now)) }
         ensures why { IfErr result (WhyNotAmong rec.now lsn [] self.now (touched_once shape.now rec.now)) }
         ensures fault { AreFit rec.now lsn [] self.now (touched_once shape.now rec.now) → IfErr result (λ e. e ≡ faults.NoMemory) }
+        ensures all_fit { (R : List Record) → HasPages shape.now R self.now → lsn ≡ suc (length R) → OnOk result (FitsAll shape.now R rec.now) }
+        ensures unfit { (R : List Record) → HasPages shape.now R self.now → lsn ≡ suc (length R) → IfErr result (WhyNotAdded shape.now R rec.now) }
     {
         let pages = made(alloc, shape, &[], &self.pages, rec, lsn)?;
         Ok(Changed { pages })
     }
 
-    /// The pages that the two records change, changed by the first and then by the second.
-    #[tactic(auto, using(crate::proofs::Folding::leads_two))]
+    /// The pages that the two records change, changed by the first and then by the second. `BadPage` names a block where the
+    /// first doesn't fit, or where that does and the second doesn't.
+    #[tactic(auto, using(crate::proofs::Folding::leads_two, crate::proofs::Pairing::first_unfit, crate::proofs::Pairing::second_unfit))]
     pub fn prepare_two(
         &self,
         alloc: Global,
@@ -213,6 +217,8 @@ impl Pages {
         ensures fits { OnOk result (AreFit first.now lsn [] self.now (touched_once shape.now first.now)) }
         ensures second_fits { OnOk result (AreFit second.now (lsn + 1) (made first.now lsn [] self.now (touched_once shape.now first.now)) self.now (touched_once shape.now second.now)) }
         ensures fault { AreFit first.now lsn [] self.now (touched_once shape.now first.now) → AreFit second.now (lsn + 1) (made first.now lsn [] self.now (touched_once shape.now first.now)) self.now (touched_once shape.now second.now) → IfErr result (λ e. e ≡ faults.NoMemory) }
+        ensures all_fit { (R : List Record) → HasPages shape.now R self.now → lsn ≡ suc (length R) → OnOk result (AreBothFit shape.now R first.now second.now) }
+        ensures unfit { (R : List Record) → HasPages shape.now R self.now → lsn ≡ suc (length R) → IfErr result (WhyNotBoth shape.now R first.now second.now) }
     {
         let mut pages = made(alloc, shape, &[], &self.pages, first, lsn)?;
         let mut more = made(alloc, shape, &pages, &self.pages, second, Lsn(lsn.0 + 1))?;
@@ -250,7 +256,6 @@ impl Pages {
 
     /// Puts one more record into the pages that it touches, into all or none. `BadPage` names a block that the record touches
     /// and that isn't there, or on whose page it doesn't fit.
-    #[tactic(auto, using(crate::proofs::Replaying::fits_all, crate::proofs::Replaying::not_added))]
     pub fn add(
         &mut self,
         alloc: Global,

@@ -24,9 +24,11 @@ use Rattle.store_core.specs.Survives.{Survives}
 use Rattle.store_core.specs.declared.fault.StoreFault.{StoreFault}
 use Rattle.store_core.proofs.Counting.{within}
 use Rattle.store_core.specs.Causes.{HasCause, HasLooked, lasting_fault}
-use Rattle.store_core.proofs.Looking.{Flushed, none_some}
+use Rattle.store_core.proofs.Looking.{Flushed}
+use Rattle.store_core.proofs.Lookups.{none_some}
 use Rattle.store_core.proofs.Surviving.{stable_below}
-use Rattle.store_core.proofs.Taking.{SameDisk, Taken, count_is, added_true, added_survives, one_fits}
+use Rattle.store_core.specs.Putting.{SameDisk, Taken}
+use Rattle.store_core.proofs.Taking.{count_is, added_true, added_survives, one_fits}
 use Rattle.txn_block.specs.declared.entry.TableEntry.{TableEntry}
 use Rattle.txn_block.specs.declared.entry.TableEntry.TheVariants.{Unused}
 use Rattle.txn_block.specs.Entries.{names}

@@ -9,9 +9,7 @@ use Rattle.store_core.specs.Survives.{Survives}
 use Rattle.store_core.specs.Causes.{HasCause, HasLooked}
 use Rattle.store_core.specs.declared.fault.StoreFault.{StoreFault}
 use Rattle.store_core.specs.declared.fault.StoreFault.TheVariants.{DeviceFault, BadPage, NoMemory}
-
-none_some : {A P : Type 0} (a : A) (o : Option A) → o ≡ None → o ≡ Some a → P
-none_some a o none some = absurd (cc (none, some))
+use Rattle.store_core.proofs.Lookups.{none_some}
 
 refused_list : {D : Type 0} (meaning : Meaning D) (s : Held D) (f : StoreFault) (R : List Record) → HasList meaning R s → HasList meaning R (with_fault s (Some f))
 refused_list meaning s f R h = record { within = h.within; few = h.few; groups = h.groups; list = h.list; pages = h.pages; commits = h.commits; ready = λ n. absurd (cc n) }

@@ -8,3 +8,4 @@ pub mod Prepared
 pub mod Surviving
 pub mod Taking
 pub mod KeptBad
+pub mod Takes

@@ -5,7 +5,6 @@ use Rattle.seg_words.specs.Types.{Shape, is_shape}
 use Rattle.disk_model.specs.Crash.{Meaning, Causes, Leaves}
 use Rattle.disk_model.specs.Only.{OnlyFile}
 use Rattle.disk_model.specs.declared.disk.File.TheVariants.{Log}
-use Rattle.disk_model.proofs.Going.{rose_later}
 use Rattle.log_frame.specs.Ready.{IsReady}
 use Rattle.redo_model.specs.Records.{Record}
 use Rattle.redo_model.specs.Model.{is_whole, IsLawful}
@@ -18,39 +17,8 @@ use Rattle.store_core.specs.Store.{Held, HasList, IsTrue, SameLoan}
 use Rattle.store_core.specs.Causes.{HasCause, HasLooked, lasting_fault}
 use Rattle.store_core.specs.declared.fault.StoreFault.{StoreFault}
 use Rattle.store_core.specs.declared.fault.StoreFault.TheVariants.{DeviceFault}
+use Rattle.store_core.proofs.Lookups.{none_some}
 use Rattle.store_core.proofs.Surviving.{holds_all, stable_below, survives_run}
-
-pub same_loan : {D : Type 0} (meaning : Meaning D) (s : Held D) → SameLoan meaning s s
-same_loan meaning s = record { loan = refl; first = refl; shape = refl; told = (λ h. h, λ h. h); time = λ R h. omega arith; faults = omega arith; reads = refl }
-
-pub none_some : {A : Type 0} (a : A) (o : Option A) → o ≡ None → o ≡ Some a → ⊥
-none_some a o none some = cc (none, some)
-
-some_inside : {A : Type 0} (a b : A) → Some a ≡ Some b → a ≡ b
-some_inside a b e = cc e
-
--- a store that kept a fault answers it
-pub spent : {D T : Type 0} (meaning : Meaning D) (s : Held D) (f : StoreFault) → s.fault ≡ Some f → HasCause {D = D} {T = T} meaning s s (Err f)
-spent meaning s f is = record {
-  device = λ none. absurd (none_some f s.fault none is);
-  kept = λ none. absurd (none_some f s.fault none is);
-  goes_on = tt;
-  answers = λ fault some. ap Err (some_inside f fault (sym is ∙ some));
-  stays = λ fault some. refl;
-}
-
--- nothing was done
-pub looked_none : {D T : Type 0} (meaning : Meaning D) (s : Held D) (result : Result T StoreFault) → HasCause meaning s s result → HasLooked meaning s s result
-looked_none meaning s result cause = record { loan = same_loan meaning s; cause = cause; list = λ R h. h; stays_true = λ R h. h; stable = λ R h. omega arith; survives = λ since needed R t h. h }
-
-pub went_well : {D T : Type 0} (meaning : Meaning D) (s : Held D) (answer : T) → s.fault ≡ None → HasCause {D = D} {T = T} meaning s s (Ok answer)
-went_well meaning s answer none = record {
-  device = λ _ no. absurd (cc no);
-  kept = λ _. none;
-  goes_on = none;
-  answers = λ fault some. absurd (none_some fault s.fault none some);
-  stays = λ fault some. absurd (none_some fault s.fault none some);
-}
 
 -- what a flush left of disk and log
 pub record Flushed {D : Type 0} (meaning : Meaning D) (old new : D) (before after : Kept) (result : Result (Unit {0}) StoreFault) : Type 0 where
@@ -183,60 +151,6 @@ module _ {D : Type 0} (meaning : Meaning D) (old new : Held D) (rest : SameRest 
   flush_failed_as f device flushed kept =
       subst (λ (x : StoreFault). HasLooked {D = D} {T = Unit {0}} meaning old new (Err x)) (sym device)
       (flush_failed (subst (λ (x : StoreFault). Flushed meaning old.disk new.disk old.log new.log (Err x)) device flushed) (kept ∙ ap lasting_fault device))
-
--- ---- one call after another
-
-pub on_err : {A : Type 0} {P : Type 0} (r : Result A StoreFault) → P → OnErr r P
-on_err (Ok a) h = tt
-on_err (Err e) h = h
-
-on_ok : {A : Type 0} {P : Type 0} (r : Result A StoreFault) → P → OnOk r P
-on_ok (Ok a) h = h
-on_ok (Err e) h = tt
-
-module _ {D : Type 0} (meaning : Meaning D) where
-  -- a fault that is handed on
-  pub cause_again : (T U : Type 0) (old new : Held D) (f : StoreFault) → HasCause {D = D} {T = T} meaning old new (Err f) → HasCause {D = D} {T = U} meaning old new (Err f)
-  cause_again T U old new f h = record {
-    device = λ none e. h.device none (ap Err (cc e));
-    kept = h.kept;
-    goes_on = tt;
-    answers = λ fault some. ap Err (cc (h.answers fault some));
-    stays = h.stays;
-  }
-
-  pub loan_then : (old mid new : Held D) → ((R : List Record) → HasList meaning R old → HasList meaning R mid) → SameLoan meaning old mid → SameLoan meaning mid new → SameLoan meaning old new
-  loan_then old mid new list a b = record {
-    loan = b.loan ∙ a.loan;
-    first = b.first ∙ a.first;
-    shape = b.shape ∙ a.shape;
-    told = (λ h. a.told.0 (b.told.0 h), λ h. b.told.1 (a.told.1 h));
-    time = λ R h. omega (arith, a.time R h, b.time R (list R h));
-    faults = omega (arith, a.faults, b.faults);
-    reads = b.reads ∙ a.reads;
-  }
-
-  pub cause_then : (T U : Type 0) (old mid new : Held D) (a : T) (result : Result U StoreFault) → HasLooked meaning old mid (Ok a) → HasCause meaning mid new result → HasCause meaning old new result
-  cause_then T U old mid new a result looked h =
-      let unspent : old.fault ≡ None = looked.cause.goes_on in
-      let still : mid.fault ≡ None = looked.cause.kept unspent in
-      record {
-        device = λ none e. rose_later _ _ _ looked.loan.faults (h.device still e);
-        kept = λ none. h.kept still;
-        goes_on = on_ok result unspent;
-        answers = λ fault some. absurd (none_some fault old.fault unspent some);
-        stays = λ fault some. absurd (none_some fault old.fault unspent some);
-      }
-
-  pub looked_then : (T U : Type 0) (old mid new : Held D) (a : T) (result : Result U StoreFault) → HasLooked meaning old mid (Ok a) → HasLooked meaning mid new result → HasLooked meaning old new result
-  looked_then T U old mid new a result first second = record {
-    loan = loan_then old mid new first.list first.loan second.loan;
-    cause = cause_then T U old mid new a result first second.cause;
-    list = λ R h. second.list R (first.list R h);
-    stays_true = λ R h. second.stays_true R (first.stays_true R h);
-    stable = λ R h. omega (arith, first.stable R h, second.stable R (first.list R h));
-    survives = λ since needed R t h. second.survives since needed R (first.stays_true R t) (first.survives since needed R t h);
-  }
 
 -- the same of equal disks and logs
 pub flushed_at : {D : Type 0} (meaning : Meaning D) (old d new : D) (before k after : Kept) (result : Result (Unit {0}) StoreFault) → old ≡ d → before ≡ k → Flushed meaning d new k after result → Flushed meaning old new before after result

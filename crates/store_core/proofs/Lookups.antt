@@ -10,11 +10,11 @@ use Rattle.store_core.specs.Causes.{HasCause, HasLooked, IsSoundFault, kept_faul
 use Rattle.store_core.specs.declared.fault.StoreFault.{StoreFault}
 use Rattle.store_core.specs.declared.fault.StoreFault.TheVariants.{DeviceFault, BadPage, NoMemory}
 
-on_ok : {T : Type 0} (r : Result T StoreFault) (P : Type 0) → P → OnOk r P
+pub on_ok : {T : Type 0} (r : Result T StoreFault) (P : Type 0) → P → OnOk r P
 on_ok (Ok x) P h = h
 on_ok (Err f) P h = tt
 
-none_some : {A P : Type 0} (a : A) (o : Option A) → o ≡ None → o ≡ Some a → P
+pub none_some : {A P : Type 0} (a : A) (o : Option A) → o ≡ None → o ≡ Some a → P
 none_some a o none some = absurd (cc (none, some))
 
 err_inside : {A : Type 0} (f g : StoreFault) → ◌≡◌ {A = Result A StoreFault} (Err f) (Err g) → f ≡ g

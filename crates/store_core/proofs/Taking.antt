@@ -17,10 +17,12 @@ use Rattle.page_fit.specs.FitPages.{IsTabled}
 use Rattle.store_laws.proofs.PuttingLaw.{records_fit, pairs_fit}
 use Rattle.store_core.specs.Store.{Held, HasList, IsTrue, SameLoan, has_page}
 use Rattle.store_core.specs.Survives.{Survives}
-use Rattle.store_core.specs.Causes.{HasCause, HasLooked, IsSoundFault, lasting_fault}
+use Rattle.store_core.specs.Putting.{SameDisk, Taken, Refused}
+use Rattle.store_core.specs.Causes.{HasCause, HasLooked, IsSoundFault}
 use Rattle.store_core.specs.declared.fault.StoreFault.{StoreFault}
 use Rattle.store_core.specs.declared.fault.StoreFault.TheVariants.{DeviceFault, NoMemory}
-use Rattle.store_core.proofs.Looking.{none_some, stays_list}
+use Rattle.store_core.proofs.Lookups.{none_some}
+use Rattle.store_core.proofs.Looking.{stays_list}
 use Rattle.store_core.proofs.Surviving.{survives_more}
 
 -- each record of a lawful list can be written
@@ -30,16 +32,6 @@ all_spelled sh (r ∷ newer) R within few h = (all_spelled sh newer R within (om
 
 pub count_is : (R : List Record) (log : Kept) → HasRecords R log → length R < 2 ^ 64 → log.count ≡ length R
 count_is R log h few = omega (arith, h.count, few)
-
--- what was added to log, pages and commits
-pub record Taken (sh : Shape) (before after : Kept) (ps qs : List Page) (was is : ℕ) (newer : List Record) (lsn : ℕ) : Type 0 where
-  pub list : (groups : List (List ℕ)) (R : List Record) → HasLogList groups [] R before → AreSpelled newer → HasLogList groups [] (newer ++ R) after
-  pub pages : (R : List Record) → before.count ≡ length R → HasPages sh R ps → HasPages sh (newer ++ R) qs
-  pub commits : (R : List Record) → was ≡ commit_count R → length (newer ++ R) < 2 ^ 64 → is ≡ commit_count (newer ++ R)
-  pub few : length newer + before.count < 2 ^ 64
-  pub number : lsn ≡ after.count
-  pub end : after.end ≡ before.end
-  pub stable : after.stable ≡ before.stable
 
 pub taken_at : (sh other : Shape) (before k after : Kept) (ps os qs : List Page) (commits m more : ℕ) (newer : List Record) (lsn : ℕ) → sh ≡ other → before ≡ k → ps ≡ os → commits ≡ m
     → Taken other k after os qs m more newer lsn → Taken sh before after ps qs commits more newer lsn
@@ -58,13 +50,6 @@ module _ {D : Type 0} (meaning : Meaning D) (old : Held D) (after : Kept) (qs : 
 
   pub number_of_true : (R : List Record) → IsTrue meaning R old → IsLawful old.shape (newer ++ R) → lsn ≡ length (newer ++ R)
   number_of_true R h lawful = number_is R h.list (all_spelled old.shape newer R h.list.within (size_of R h.list) lawful.allowed)
-
--- disk and loan are as before
-pub record SameDisk {D : Type 0} (old new : Held D) : Type 0 where
-  pub disk : new.disk ≡ old.disk
-  pub loan : new.loan ≡ old.loan
-  pub first : new.first ≡ old.first
-  pub shape : new.shape ≡ old.shape
 
 pub same_disk_loan : {D : Type 0} (meaning : Meaning D) (old new : Held D) → SameDisk old new → SameLoan meaning old new
 same_disk_loan {D = D} meaning old new same = record {
@@ -122,14 +107,6 @@ module _ {D : Type 0} (meaning : Meaning D) (old new : Held D) (same : SameDisk 
   }
 
 -- ---- a refusal
-
-pub record Refused {D : Type 0} (old new : Held D) (f : StoreFault) : Type 0 where
-  pub same : SameDisk old new
-  pub log : Stays old.log new.log
-  pub pages : new.pages ≡ old.pages
-  pub commits : new.commits ≡ old.commits
-  pub fault : new.fault ≡ lasting_fault f
-  pub device : f ≡ DeviceFault → ⊥
 
 module _ {D : Type 0} (meaning : Meaning D) (old new : Held D) (unspent : old.fault ≡ None) (f : StoreFault) (r : Refused old new f) where
   pub refused_list : (R : List Record) → HasList meaning R old → HasList meaning R new

@@ -1,11 +1,16 @@
--- What a call does that adds records to a true store, or refuses and leaves them.
-use Rattle.std.specs.Prelude.{◌≡◌, ℕ, ◌≤◌, List, None, Result, OnOk, OnErr, IfErr}
-use Rattle.disk_model.specs.Crash.{Meaning}
+-- What a call does that adds records to a store, or refuses and leaves them.
+use Rattle.std.specs.Prelude.{◌≡◌, ◌⊎◌, ℕ, ◌≤◌, ◌<◌, List, ◌∷◌, ◌++◌, length, None, Result, OnOk, OnErr, IfOk, IfErr, IsErrOf}
+use Rattle.seg_words.specs.Types.{Shape}
+use Rattle.disk_model.specs.Crash.{Meaning, Untouched}
 use Rattle.redo_model.specs.Records.{Record}
-use Rattle.store_core.specs.Store.{Held, HasList, IsTrue, SameLoan}
+use Rattle.redo_model.specs.Model.{IsLawful}
+use Rattle.redo_log.specs.Kept.{AreSpelled}
+use Rattle.page_map.specs.Fitting.{FitsAll, IsUnfit}
+use Rattle.store_core.specs.Store.{Held, HasList, IsTrue, SameLoan, waits}
 use Rattle.store_core.specs.Survives.{Survives}
 use Rattle.store_core.specs.Causes.{HasCause, IsSoundFault}
 use Rattle.store_core.specs.declared.fault.StoreFault.{StoreFault}
+use Rattle.store_core.specs.declared.fault.StoreFault.TheVariants.{DeviceFault, BadPage, NoMemory}
 
 -- Of a true store with the records R: at Ok they are next, at Err R. The only faults are those of the disk and want of memory,
 -- and what survives a crash goes on surviving it.
@@ -25,3 +30,36 @@ pub record HasTried {D T : Type 0} (meaning : Meaning D) (old new : Held D) (res
   pub stable : (R : List Record) → HasList meaning R old → old.log.stable ≤ new.log.stable
   pub loan : SameLoan meaning old new
   pub cause : HasCause meaning old new result
+
+-- What `take` and `take_two` do to any store with a list, and to a true one: these records are added, or none.
+pub record HasTaken {D : Type 0} (meaning : Meaning D) (newer : List Record) (old new : Held D) (result : Result ℕ StoreFault) : Type 0 where
+  pub added : (R : List Record) → HasList meaning R old → AreSpelled newer → OnOk result (HasList meaning (newer ++ R) new)
+  pub number : (R : List Record) → HasList meaning R old → AreSpelled newer → IfOk result (λ lsn. lsn ≡ length (newer ++ R))
+  pub true_number : (R : List Record) → IsTrue meaning R old → IsLawful old.shape (newer ++ R) → IfOk result (λ lsn. lsn ≡ length (newer ++ R))
+  pub refused : (R : List Record) → HasList meaning R old → OnErr result (HasList meaning R new)
+  pub added_true : (R : List Record) → IsTrue meaning R old → IsLawful old.shape (newer ++ R) → OnOk result (IsTrue meaning (newer ++ R) new)
+  pub refused_true : (R : List Record) → IsTrue meaning R old → OnErr result (IsTrue meaning R new)
+  pub survives : (since : ℕ) (needed : ℕ → ℕ) (R : List Record) → IsTrue meaning R old → Survives meaning since needed R old → OnOk result (Survives meaning since needed (newer ++ R) new)
+  pub survives_refused : (since : ℕ) (needed : ℕ → ℕ) (R : List Record) → IsTrue meaning R old → Survives meaning since needed R old → OnErr result (Survives meaning since needed R new)
+  pub stable : (R : List Record) → HasList meaning R old → old.log.stable ≤ new.log.stable
+  pub loan : SameLoan meaning old new
+  pub cause : HasCause meaning old new result
+
+-- Where more bytes wait than most, all records that are there become stable first, unless the store or the disk fails. Where
+-- they don't, no file is changed.
+pub record FlushesFirst {D T : Type 0} (meaning : Meaning D) (most : ℕ) (old new : Held D) (result : Result T StoreFault) : Type 0 where
+  pub full : (R : List Record) → HasList meaning R old → old.fault ≡ None → most < waits old → (IsErrOf result DeviceFault → ⊥) → new.log.stable ≡ length R
+  pub unchanged : waits old ≤ most → Untouched meaning old.disk new.disk
+  pub stays : waits old ≤ most → new.log.stable ≡ old.log.stable
+
+-- why a record isn't taken after the records R: it touches the block and doesn't fit there, or disk or memory failed
+abbrev pub WhyNotTaken : Shape → List Record → Record → StoreFault → Type 0
+WhyNotTaken sh R r DeviceFault = Unit {0}
+WhyNotTaken sh R r (BadPage d) = IsUnfit sh R r d
+WhyNotTaken sh R r NoMemory = Unit {0}
+
+-- the same of two: the first doesn't fit at the block, or it fits and then the second doesn't
+abbrev pub WhyNotBothTaken : Shape → List Record → Record → Record → StoreFault → Type 0
+WhyNotBothTaken sh R first second DeviceFault = Unit {0}
+WhyNotBothTaken sh R first second (BadPage d) = IsUnfit sh R first d ⊎ (FitsAll sh R first × IsUnfit sh (first ∷ R) second d)
+WhyNotBothTaken sh R first second NoMemory = Unit {0}

@@ -7,6 +7,8 @@ use Rattle.log_frame.specs.declared.fault.FrameFault.TheVariants as frames
 use Rattle.redo_model.specs.Records.{Record}
 use Rattle.redo_log.specs.declared.fault.LogFault.{LogFault}
 use Rattle.redo_log.specs.declared.fault.LogFault.TheVariants as logs
+use Rattle.page_map.specs.declared.fault.PageFault.{PageFault}
+use Rattle.page_map.specs.declared.fault.PageFault.TheVariants as pages
 use Rattle.store_core.specs.Store.{Held, HasList, IsTrue, SameLoan}
 use Rattle.store_core.specs.Survives.{Survives}
 use Rattle.store_core.specs.declared.fault.StoreFault.{StoreFault}
@@ -30,6 +32,11 @@ lasting_fault NoMemory = None
 abbrev pub kept_fault : {T : Type 0} → Result T StoreFault → Option StoreFault
 kept_fault (Ok answer) = None
 kept_fault (Err fault) = lasting_fault fault
+
+-- the fault of a page's change
+abbrev pub page_fault : PageFault → StoreFault
+page_fault (pages.BadPage block) = BadPage block
+page_fault pages.NoMemory = NoMemory
 
 -- A store that kept no fault answers DeviceFault only where the disk's count of faults rose, and keeps the fault that it
 -- answers. One that kept a fault answers it, and stays as it was.

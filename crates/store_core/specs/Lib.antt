@@ -4,3 +4,4 @@ pub mod Causes
 pub mod Refused
 pub mod Preparing
 pub mod Adding
+pub mod Putting

@@ -37,6 +37,10 @@ pub record Read (D : Type 0) : Type 0 where
 abbrev pub with_disk : {D : Type 0} → D → GName → Read D → Held D
 with_disk disk loan r = record { disk = disk; loan = loan; first = r.first; shape = r.shape; log = r.log; pages = r.pages; commits = r.commits; fault = r.fault }
 
+-- how many bytes of records aren't written yet
+abbrev pub waits : {D : Type 0} → Held D → ℕ
+waits s = length s.log.waiting.bytes
+
 -- The store has the records R: its log has them, of which the groups on the disk hold the stable ones, and each page is the
 -- fold of R. It names no frame and no map. After a fault of the disk nothing is said of the disk.
 pub record HasList {D : Type 0} (meaning : Meaning D) (R : List Record) (s : Held D) : Type 0 where

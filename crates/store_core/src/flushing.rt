@@ -1,5 +1,5 @@
 // Making records stable.
-ghost use Rattle.std.specs.Prelude.{◌≡◌, ◌↔◌, ◌≤◌, [], ℕ, List, None, OnOk, OnErr, IfErr, IsErr, length};
+ghost use Rattle.std.specs.Prelude.{◌≡◌, ◌↔◌, ◌<◌, ◌≤◌, [], ℕ, List, None, OnOk, OnErr, IfErr, IsErr, length};
 ghost use Rattle.seg_words.specs.Types.{Shape};
 ghost use Rattle.disk_model.specs.Crash.{Causes, Leaves};
 ghost use Rattle.disk_model.specs.Only.{OnlyFile};
@@ -8,17 +8,17 @@ ghost use Rattle.log_frame.specs.Ready.{IsReady};
 ghost use Rattle.redo_model.specs.Records.{Record};
 ghost use Rattle.redo_log.specs.Kept.{Stays, with_group, HasList as HasLogList};
 ghost use Rattle.redo_log.specs.Lasting.{GroupOrNone};
-ghost use Rattle.store_core.specs.Store.{HasList};
+ghost use Rattle.store_core.specs.Store.{HasList, waits};
 ghost use Rattle.store_core.specs.Causes.{HasLooked};
 ghost use Rattle.store_core.specs.declared.fault.StoreFault.TheVariants as faults;
 
-use crate::adding::lasting;
+use crate::putting::lasting;
 use crate::{Store, StoreFault};
 use disk_model::Disk;
 use redo_log::RedoLog;
 
-/// How many bytes of records wait at most before one more is added.
-const MOST_UNWRITTEN: u64 = 1_048_576;
+/// How many bytes of records wait at most where one more is added without a flush: 1 MiB.
+pub const MOST_UNWRITTEN: u64 = 1_048_576;
 
 // Makes all records stable. The only fault is one of the disk.
 pub(crate) fn flush_in<D: Disk>(disk: &mut D, log: &mut RedoLog) -> Result<(), StoreFault>
@@ -28,6 +28,7 @@ pub(crate) fn flush_in<D: Disk>(disk: &mut D, log: &mut RedoLog) -> Result<(), S
         → OnOk result (IsReady D.meaning disk.new shape (with_group groups log.old.waiting.bytes) log.new.end) }
     ensures list { (groups : List (List ℕ)) (R : List Record) → HasLogList groups [] R log.old → OnOk result (HasLogList (with_group groups log.old.waiting.bytes) [] R log.new) }
     ensures stable { OnOk result (log.new.stable ≡ log.old.count) }
+    ensures none { OnOk result (log.new.waiting.bytes ≡ []) }
     ensures room { OnOk result (18 ≤ log.new.waiting.room) }
     ensures refused { OnErr result (Stays log.old log.new) }
     ensures only { IfErr result (λ e. e ≡ faults.DeviceFault) }
@@ -46,6 +47,7 @@ impl<'a, D: Disk> Store<'a, D> {
     pub fn flush_log(&mut self) -> Result<(), StoreFault>
         ensures looked { HasLooked D.meaning self.old self.new result }
         ensures stable { (R : List Record) → HasList D.meaning R self.old → OnOk result (self.new.log.stable ≡ length R) }
+        ensures written { OnOk result (waits self.new ≡ 0) }
         ensures only { self.old.fault ≡ None → IfErr result (λ e. e ≡ faults.DeviceFault) }
     {
         if let Some(fault) = self.fault {
@@ -63,6 +65,8 @@ impl<'a, D: Disk> Store<'a, D> {
     // Makes all records stable where too many wait. A store that has failed answers its fault.
     pub(crate) fn flush_full(&mut self) -> Result<(), StoreFault>
         ensures looked { HasLooked D.meaning self.old self.new result }
+        ensures full { (R : List Record) → HasList D.meaning R self.old → MOST_UNWRITTEN < waits self.old → OnOk result (self.new.log.stable ≡ length R) }
+        ensures none { waits self.old ≤ MOST_UNWRITTEN → self.new ≡ self.old }
         ensures only { self.old.fault ≡ None → IfErr result (λ e. e ≡ faults.DeviceFault) }
     {
         if self.log.unwritten() > MOST_UNWRITTEN {

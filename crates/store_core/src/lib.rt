@@ -6,15 +6,20 @@
 #![tactic(auto)]
 
 mod adding;
+mod commits;
 mod fault;
 mod flushing;
 mod lowered;
 mod opening;
 mod pages;
+mod putting;
 mod refusing;
 mod store;
+#[cfg(test)]
+mod tests;
 
 pub use fault::{StoreFault, StoreOpen};
+pub use flushing::MOST_UNWRITTEN;
 pub use lowered::Lowered;
 pub use opening::{prepare, replay};
 pub use store::{Loaded, Store};

@@ -21,7 +21,7 @@ ghost use Rattle.store_core.specs.Causes.{IsSoundOpen, IsSoundFrame, IsSoundLog,
 ghost use Rattle.store_core.specs.Preparing.{head_refusal, log_refusal, pages_refusal, HeadSays, IsRefused, IsPrepared, IsHeadRead, IsLogRead, AreRead};
 ghost use Rattle.store_core.specs.declared.fault.StoreOpen.TheVariants as opens;
 
-use crate::adding::commits_after;
+use crate::commits::commits_after;
 use crate::{Loaded, Store, StoreOpen};
 use disk_model::Disk;
 use log_frame::{FrameFault, read_shape};

@@ -1,5 +1,5 @@
 // The pages of a store.
-ghost use Rattle.std.specs.Prelude.{◌≡◌, ◌<◌, ◌≤◌, List, length, None, true, false, OnOk, IfOk, IfErr};
+ghost use Rattle.std.specs.Prelude.{◌≡◌, ◌<◌, ◌≤◌, List, length, None, Some, true, false, OnOk, IfOk, IfErr, IsErrOf};
 ghost use Rattle.redo_model.specs.Records.{Record};
 ghost use Rattle.page_set.specs.Folded.{page_of};
 ghost use Rattle.store_core.specs.Store.{HasList, IsFetched, has_page as is_page};
@@ -63,6 +63,8 @@ impl<'a, D: Disk> Store<'a, D> {
     /// The page of a block, found and lent. Of the store afterwards it says nothing: use `fetch` and `frame` where that counts.
     pub fn page(&mut self, dba: Dba) -> Result<&Page, StoreFault>
         ensures page { (R : List Record) → HasList D.meaning R self.old → IfOk result (λ page. page.now ≡ page_of self.old.shape R dba) }
+        ensures unspent { OnOk result (self.old.fault ≡ None) }
+        ensures answers { (fault : StoreFault) → self.old.fault ≡ Some fault → IsErrOf result fault }
         ensures has { OnOk result (is_page self.old.shape dba ≡ true) }
         ensures none { self.old.fault ≡ None → is_page self.old.shape dba ≡ false → IfErr result (λ e. e ≡ faults.BadPage dba) }
         ensures sound { (R : List Record) → HasList D.meaning R self.old → self.old.fault ≡ None → is_page self.old.shape dba ≡ true → IfErr result IsSoundFault }

@@ -1,5 +1,5 @@
 use Rattle.std.proofs.Common.{◌∙◌, [], suc, ap, arith}
-use Rattle.store_core.proofs.adding.commit_in.Goals as goal
+use Rattle.store_core.proofs.commits.commit_in.Goals as goal
 
 pub returns-in-Ok-clause-list : goal.returns-in-Ok-clause-list
 returns-in-Ok-clause-list c = λ groups R h. c.append_commit.ensures.added groups [] R h

@@ -1,5 +1,5 @@
 use Rattle.std.proofs.Common.{[]}
-use Rattle.store_core.proofs.adding.put_one.Goals as goal
+use Rattle.store_core.proofs.putting.put_one.Goals as goal
 
 pub returns-clause-list : goal.returns-clause-list
 returns-clause-list c = λ groups R h s. c.in_ok-lsn.ensures.added groups [] R h s

@@ -2,10 +2,11 @@
 //!
 //! `prepare` and `Store::over`, or `replay`, which is both, make a store of a disk. Records are added by `record`,
 //! `record_two` and `record_commit`, each where it is allowed, and by `take` and `take_two`, whatever they are. `page` lends the
-//! page of a block.
+//! page of a block, and `ask` asks it one question.
 #![tactic(auto)]
 
 mod adding;
+mod asking;
 mod commits;
 mod fault;
 mod flushing;
@@ -18,6 +19,7 @@ mod store;
 #[cfg(test)]
 mod tests;
 
+pub use asking::{Question, ask};
 pub use fault::{StoreFault, StoreOpen};
 pub use flushing::MOST_UNWRITTEN;
 pub use lowered::Lowered;

@@ -10,7 +10,6 @@ ghost use Rattle.store_core.specs.Store.{IsTrue, SameLoan};
 ghost use Rattle.store_core.specs.Adding.{Adds};
 ghost use Rattle.txn_end.specs.Backing.{back_part_of, blocks_of_parts, IsFirst};
 
-use crate::asking::ask;
 use crate::ending::{TXN_TABLE, add};
 use crate::part::{EntryOf, PartAt, RowIn, SequenceOf};
 use crate::standing::StandingOf;
@@ -19,7 +18,7 @@ use disk_model::Disk;
 use redo_record::{BackPart, BackRecord, Parts, Record};
 use seg_base::{Dba, NoMemory, Obj, RowNo, Sequence, TxnId, UndoAddr, UndoPlace};
 use std::alloc::Global;
-use store_core::{Store, StoreFault};
+use store_core::{Store, StoreFault, ask};
 use undo_block::Part;
 
 /// What gives back the image of the part at place i of the record with this undo address.

@@ -9,13 +9,12 @@ ghost use Rattle.store_core.specs.Store.{HasList, IsTrue, SameLoan};
 ghost use Rattle.store_core.specs.Survives.{Survives};
 ghost use Rattle.store_core.specs.Adding.{Adds};
 
-use crate::asking::ask;
 use crate::standing::StandingOf;
 use disk_model::Disk;
 use redo_record::{EndedRecord, Record};
 use seg_base::{Dba, Scn, TXN_TABLE_BLOCK, TxnId};
 use std::alloc::Global;
-use store_core::{Store, StoreFault};
+use store_core::{Store, StoreFault, ask};
 
 /// The block of the transaction table.
 pub const TXN_TABLE: Dba = Dba(TXN_TABLE_BLOCK);

@@ -2,7 +2,6 @@
 //! one record, of which every field is a function of the list before it.
 #![tactic(auto)]
 
-mod asking;
 mod back;
 mod ending;
 mod part;

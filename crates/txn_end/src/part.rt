@@ -2,10 +2,10 @@
 ghost use Rattle.std.specs.Prelude.{◌≡◌, IfOk};
 ghost use Rattle.txn_end.specs.Reading.{part_in, sequence_in, entry_in, row_in};
 
-use crate::asking::Question;
 use page_set::Page;
 use seg_base::{Ended, Kind, NoMemory, RowNo, TxnId};
 use std::alloc::Global;
+use store_core::Question;
 use undo_block::Part;
 
 fn part_in(alloc: Global, page: &Page, nth: u8) -> Result<Option<Part>, NoMemory>

@@ -2,10 +2,10 @@
 ghost use Rattle.std.specs.Prelude.{◌≡◌};
 ghost use Rattle.txn_end.specs.Reading.{standing_in};
 
-use crate::asking::Question;
 use page_set::Page;
 use seg_base::{NoMemory, TxnId, UndoAddr};
 use std::alloc::Global;
+use store_core::Question;
 
 /// A transaction's entry, and where its newest undo stands.
 #[derive(Clone, Copy, Debug, PartialEq, Eq, Drop)]

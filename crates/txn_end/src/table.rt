@@ -11,13 +11,12 @@ ghost use Rattle.txn_end.specs.Owning.{Owns, Tells};
 ghost use Rattle.txn_end.specs.Reading.{header_in, has_number, number_is, extent_in};
 ghost use Rattle.segment_blocks.specs.Types.{extent_at};
 
-use crate::asking::{Question, ask};
 use disk_model::Disk;
 use page_set::Page;
 use seg_base::{CATALOGUE_BLOCK, Dba, MOST_TABLES, NoMemory, OWN_BLOCKS, Obj, Shape};
 use segment_blocks::SegmentHeader;
 use std::alloc::Global;
-use store_core::{Store, StoreFault};
+use store_core::{Question, Store, StoreFault, ask};
 
 const CATALOGUE: Dba = Dba(CATALOGUE_BLOCK);
 

@@ -5,11 +5,11 @@ ghost use Rattle.page_set.specs.Folded.{page_of};
 ghost use Rattle.store_core.specs.Causes.{HasLooked, IsSoundFault};
 ghost use Rattle.store_core.specs.Store.{HasList, IsFetched, IsTrue, has_page};
 
+use crate::{Store, StoreFault};
 use disk_model::Disk;
 use page_set::Page;
 use seg_base::{Dba, NoMemory};
 use std::alloc::Global;
-use store_core::{Store, StoreFault};
 
 /// A question that a page is asked.
 pub trait Question {

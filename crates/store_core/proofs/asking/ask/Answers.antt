@@ -1,6 +1,6 @@
 use Rattle.std.proofs.Common.{Ok, Err}
 use Rattle.store_core.proofs.Lookups.{looked_on, looked_err}
-use Rattle.txn_end.proofs.asking.ask.Goals as goal
+use Rattle.store_core.proofs.asking.ask.Goals as goal
 
 pub returns-in-Err-clause-sound : goal.returns-in-Err-clause-sound
 returns-in-Err-clause-sound g c = λ R x h n p e. c.in-Err.ensures.sound R h.list n p

@@ -46,10 +46,13 @@ module _ (sh : Shape) (R : List Record) (a b : Record) (lsn : ℕ) (ps first : L
   }
 
   pub second_unfit : (fault : PageFault) → AreFit a lsn [] ps (touched_once sh a) → WhyNotAmong b (lsn + 1) first ps (touched_once sh b) fault → WhyNotBoth sh R a b fault
-  second_unfit (BadPage d) one why = inr (fits_all sh R a lsn ps h e one, record {
-    touches = sym ((are_listed sh b).0 d) ∙ why.0;
-    unfit = λ f. why.1 (from_next d f);
-  })
+  second_unfit (BadPage d) one why = inr (
+    fits_all sh R a lsn ps h e one,
+    record {
+      touches = sym ((are_listed sh b).0 d) ∙ why.0;
+      unfit = λ f. why.1 (from_next d f);
+    },
+  )
   second_unfit NoMemory one why = tt
 
 pub first_unfit : (sh : Shape) (R : List Record) (a b : Record) (lsn : ℕ) (ps : List Page) (fault : PageFault) → HasPages sh R ps → lsn ≡ suc (length R) → WhyNotAmong a lsn [] ps (touched_once sh a) fault → WhyNotBoth sh R a b fault

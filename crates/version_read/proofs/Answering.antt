@@ -14,7 +14,7 @@ use Rattle.version_read.specs.declared.version.Tells.{Tells}
 use Rattle.version_read.specs.declared.version.Tells.TheVariants.{Counts, Passes, Unknown}
 use Rattle.version_read.specs.declared.version.Version.{Version}
 use Rattle.version_read.specs.Looking.{tells, Looks, old_at, followed, NextOf, PartLeads}
-use Rattle.version_read.specs.Walking.{txn_or_none, IsReader, Reaches, LeadsDown, StandsAt, Shows, Finds, Goes, IsGiven}
+use Rattle.version_read.specs.Walking.{txn_or_none, IsReader, Reaches, LeadsDown, StandsAt, Shows, Finds, Goes, IsLent, IsGiven, EndsIn}
 use Rattle.version_read.proofs.Stepping.{is_open, EndAt, begins, at_image, held_part, at_part, at_lost, sees_row, sees_none, is_refused, is_refused_entry}
 use Rattle.version_read.specs.declared.version.Version.TheVariants as version
 use Rattle.version_read.specs.declared.chain.Seen as seens
@@ -88,6 +88,12 @@ pub follows_there : (sh : Shape) (R : List Record) (u : UndoPage) (a : UndoAddr)
 follows_there sh R u a i v h =
     cond-true (eqb a.seq u.sequence) (old_at u.parts a.nth) None (eq-eqb a.seq u.sequence (h.present ∙ sym v.sequence))
     ∙ held_part (undo_held R a.block) a.nth u.parts v.parts ∙ h.old
+
+pub ends_lent : (lent : ℕ → Type 0) (u : ℕ) (f : seens.Seen) → EndsIn u (next.Done f) → lent u → IsLent lent f
+ends_lent lent u (seen.Row a) e l = subst lent e l
+ends_lent lent u seen.Nothing e l = tt
+ends_lent lent u (seen.TooOld a) e l = tt
+ends_lent lent u (seen.TooOldEntry t) e l = tt
 
 -- ---- at all commits
 

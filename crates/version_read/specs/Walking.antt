@@ -140,20 +140,20 @@ abbrev pub Goes : Shape → List Record → ℕ → ℕ → ℕ → Option ℕ �
 Goes sh R b k s own n most (next.Done f) = Finds sh R b k s own f
 Goes sh R b k s own n most (next.Below a) = LeadsDown sh R b k s (txn_or_none own) (n + 1) most a
 
--- an answer that gives a row says where it stands: in this block
-abbrev pub IsFetched : ℕ → seens.Seen → Type 0
-IsFetched u (seen.Row a) = u ≡ a.block
-IsFetched u _ = Unit {0}
+-- where an answer gives a row, this holds of the block in which it stands
+abbrev pub IsLent : (ℕ → Type 0) → seens.Seen → Type 0
+IsLent lent (seen.Row a) = lent a.block
+IsLent lent _ = Unit {0}
 
 -- a walk that ends at a part of a block ends in this block
 abbrev pub EndsIn : ℕ → nexts.Next → Type 0
-EndsIn u (next.Done f) = IsFetched u f
+EndsIn u (next.Done f) = IsLent (λ x. u ≡ x) f
 EndsIn u (next.Below a) = Unit {0}
 
--- where a walk stands after a step, this block is the one that it reads next
-abbrev pub IsReady : ℕ → nexts.Next → Type 0
-IsReady u (next.Done f) = IsFetched u f
-IsReady u (next.Below a) = u ≡ a.block
+-- where a walk stands after a step, this holds of the block that it reads next
+abbrev pub IsReady : (ℕ → Type 0) → nexts.Next → Type 0
+IsReady lent (next.Done f) = IsLent lent f
+IsReady lent (next.Below a) = lent a.block
 
 -- an answer that is no refusal
 abbrev pub IsGiven : seens.Seen → Type 0

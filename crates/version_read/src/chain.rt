@@ -1,11 +1,11 @@
 // Down a slot's images through undo, to the first one that counts.
-ghost use Rattle.std.specs.Prelude.{◌≡◌, ℕ, ◌+◌, ◌*◌, ◌<◌, ◌≤◌, min, true, false, List, option_map, Some, IfOk, IfErr, IfSome, MatchOption};
+ghost use Rattle.std.specs.Prelude.{◌≡◌, ℕ, ◌+◌, ◌*◌, ◌<◌, ◌≤◌, min, true, false, List, option_map, Some, OnOk, IfOk, IfErr, IfSome, MatchOption};
 ghost use Rattle.seg_words.specs.Types.{Shape, Slot as TheSlot};
 ghost use Rattle.redo_model.specs.Records.{Record};
 ghost use Rattle.redo_model.specs.Model.{commit_count};
-ghost use Rattle.version_laws.specs.Types.{IsInUse};
+ghost use Rattle.version_laws.specs.Types.{HoldsTable, IsInUse};
 ghost use Rattle.version_read.specs.Looking.{tells, NextOf, PartLeads};
-ghost use Rattle.version_read.specs.Walking.{IsWalk, IsOnWay, StandsAt, Finds, Goes, IsFetched, IsGiven, EndsIn, IsReady};
+ghost use Rattle.version_read.specs.Walking.{IsWalk, IsOnWay, StandsAt, Finds, Goes, IsLent, IsGiven, EndsIn, IsReady};
 
 use crate::pages::UndoPages;
 use crate::version::{Version, follow, shown};
@@ -71,52 +71,57 @@ fn part_leads(
     }
 }
 
-/// The same over the page that was fetched last, that of the address.
+/// The same over the page of the address's block, which was fetched.
 fn page_leads<P: UndoPages>(
     pages: &P,
+    table: &TxnBlock,
     at: UndoAddr,
     s: Scn,
     own: &Option<TxnId>,
     more: bool,
 ) -> Option<Next>
-    ensures leads { (sh : Shape) (R : List Record) (b k n most : ℕ) → P.has_list sh R pages.now → P.fetched pages.now ≡ at.block → IsOnWay sh R b k s own.now n most at more → MatchOption result ⊥ (Goes sh R b k s own.now n most) }
+    requires { P.lends at.block pages.now }
+    ensures leads { (sh : Shape) (R : List Record) (b k n most : ℕ) → P.has_list sh R pages.now → HoldsTable R table.now → IsOnWay sh R b k s own.now n most at more → MatchOption result ⊥ (Goes sh R b k s own.now n most) }
     ensures place { IfSome result (EndsIn at.block) }
 {
-    match pages.undo() {
+    match pages.undo(at.block) {
         None => None,
-        Some(block) => part_leads(pages.table(), block, at, s, own, more),
+        Some(block) => part_leads(table, block, at, s, own, more),
     }
 }
 
 /// Fetches the block of the part below, unless it is the one that is there.
 fn go_to<P: UndoPages>(pages: &mut P, here: u32, block: u32) -> Result<(), P::Fault>
-    ensures fetched { P.fetched pages.old ≡ here → IfOk result (λ _. P.fetched pages.new ≡ block) }
-    ensures looked { P.looked pages.old pages.new }
+    requires { P.lends here pages.old }
+    ensures lent { OnOk result (P.lends block pages.new) }
+    ensures looked { OnOk result (P.looked pages.old pages.new) }
     ensures failed { IfErr result (P.failed pages.old pages.new) }
     ensures sound { (sh : Shape) (R : List Record) → P.has_list sh R pages.old → IsInUse sh R block → IfErr result P.is_sound }
 {
     if block == here {
         return Ok(());
     }
-    pages.fetch(block)
+    pages.fetch_undo(block)
 }
 
 /// From one part to the next one, whose page is then the one fetched last.
 fn step_down<P: UndoPages>(
     pages: &mut P,
+    table: &TxnBlock,
     at: UndoAddr,
     s: Scn,
     own: &Option<TxnId>,
     more: bool,
 ) -> Result<Next, P::Fault>
-    ensures fetched { P.fetched pages.old ≡ at.block → IfOk result (IsReady (P.fetched pages.new)) }
-    ensures looked { P.looked pages.old pages.new }
+    requires { P.lends at.block pages.old }
+    ensures lent { IfOk result (IsReady (λ u. P.lends u pages.new)) }
+    ensures looked { OnOk result (P.looked pages.old pages.new) }
     ensures failed { IfErr result (P.failed pages.old pages.new) }
-    ensures goes { (sh : Shape) (R : List Record) (b k n most : ℕ) → P.has_list sh R pages.old → P.fetched pages.old ≡ at.block → IsOnWay sh R b k s own.now n most at more → IfOk result (Goes sh R b k s own.now n most) }
-    ensures sound { (sh : Shape) (R : List Record) (b k n most : ℕ) → P.has_list sh R pages.old → P.fetched pages.old ≡ at.block → IsOnWay sh R b k s own.now n most at more → IfErr result P.is_sound }
+    ensures goes { (sh : Shape) (R : List Record) (b k n most : ℕ) → P.has_list sh R pages.old → HoldsTable R table.now → IsOnWay sh R b k s own.now n most at more → IfOk result (Goes sh R b k s own.now n most) }
+    ensures sound { (sh : Shape) (R : List Record) (b k n most : ℕ) → P.has_list sh R pages.old → HoldsTable R table.now → IsOnWay sh R b k s own.now n most at more → IfErr result P.is_sound }
 {
-    match page_leads(pages, at, s, own, more) {
-        None => Err(pages.refuse()),
+    match page_leads(pages, table, at, s, own, more) {
+        None => Err(pages.refuse_undo(at.block)),
         Some(Next::Done(seen)) => Ok(Next::Done(seen)),
         Some(Next::Below(below)) => match go_to(pages, at.block, below.block) {
             Ok(()) => Ok(Next::Below(below)),
@@ -133,46 +138,48 @@ fn most_parts(ring: u32) -> u32
 }
 
 /// From the undo address to which the image of a slot leads, as `look` answers it, down to the first image that counts at a
-/// commit number for an active transaction, or for none. `ring` is the store's number of undo blocks.
+/// commit number for an active transaction, or for none. The table is the store's transaction table, `ring` its number of undo
+/// blocks.
 ///
 /// In a store whose list is lawful the only faults are those of fetching. In another one a part that isn't there, and one
 /// more part than 63 for each undo block, are refused as a bad page of the undo block where the walk stands.
 pub fn walk<P: UndoPages>(
     pages: &mut P,
+    table: &TxnBlock,
     from: UndoAddr,
     s: Scn,
     own: Option<TxnId>,
     ring: u32,
 ) -> Result<Seen, P::Fault>
-    ensures looked { P.looked pages.old pages.new }
+    ensures lent { IfOk result (IsLent (λ u. P.lends u pages.new)) }
+    ensures looked { OnOk result (P.looked pages.old pages.new) }
     ensures failed { IfErr result (P.failed pages.old pages.new) }
-    ensures fetched { IfOk result (IsFetched (P.fetched pages.new)) }
-    ensures finds { (sh : Shape) (R : List Record) (b k : ℕ) → P.has_list sh R pages.old → IsWalk sh R b k s own ring from → IfOk result (Finds sh R b k s own) }
-    ensures sound { (sh : Shape) (R : List Record) (b k : ℕ) → P.has_list sh R pages.old → IsWalk sh R b k s own ring from → IfErr result P.is_sound }
+    ensures finds { (sh : Shape) (R : List Record) (b k : ℕ) → P.has_list sh R pages.old → HoldsTable R table.now → IsWalk sh R b k s own ring from → IfOk result (Finds sh R b k s own) }
+    ensures sound { (sh : Shape) (R : List Record) (b k : ℕ) → P.has_list sh R pages.old → HoldsTable R table.now → IsWalk sh R b k s own ring from → IfErr result P.is_sound }
     // At all commits nothing is too old: what changes of rows rest on.
-    ensures now { (sh : Shape) (R : List Record) (b k : ℕ) → P.has_list sh R pages.old → IsWalk sh R b k s own ring from → commit_count R ≤ s → IfOk result IsGiven }
+    ensures now { (sh : Shape) (R : List Record) (b k : ℕ) → P.has_list sh R pages.old → HoldsTable R table.now → IsWalk sh R b k s own ring from → commit_count R ≤ s → IfOk result IsGiven }
 {
     let most = most_parts(ring);
-    if let Err(fault) = pages.fetch(from.block) {
+    if let Err(fault) = pages.fetch_undo(from.block) {
         return Err(fault);
     }
     let mut at = from;
     for followed in 0..most + 1 {
-        match step_down(pages, at, s, &own, followed < most) {
+        match step_down(pages, table, at, s, &own, followed < most) {
             Err(fault) => return Err(fault),
             Ok(Next::Done(seen)) => return Ok(seen),
             Ok(Next::Below(below)) => at = below,
         }
     }
-    Err(pages.refuse())
+    Err(pages.refuse_undo(at.block))
 }
 
-/// The image that stands at an undo address, lent by the store. After a walk that ended there its block is the one fetched
-/// last.
+/// The image that stands at an undo address, lent by the store. After a walk that ended there its block is one that can be lent.
 pub fn image_at<P: UndoPages>(pages: &P, at: UndoAddr) -> Option<&Slot>
-    ensures { (sh : Shape) (R : List Record) (i : TheSlot) → P.has_list sh R pages.now → P.fetched pages.now ≡ at.block → StandsAt sh R at i → option_map (λ slot. slot.now) result ≡ Some i }
+    requires { P.lends at.block pages.now }
+    ensures { (sh : Shape) (R : List Record) (i : TheSlot) → P.has_list sh R pages.now → StandsAt sh R at i → option_map (λ slot. slot.now) result ≡ Some i }
 {
-    match pages.undo() {
+    match pages.undo(at.block) {
         None => None,
         Some(block) => follow(block, at),
     }

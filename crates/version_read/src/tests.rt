@@ -132,54 +132,48 @@ fn slots_are_looked_at_by_number(rt: HostRuntime) -> Result<(), Fail> {
 /// Undo blocks 37 and on, of which one is lent at a time.
 #[derive(Drop)]
 struct Ring {
-    table: TxnBlock,
     blocks: Vec<UndoBlock>,
-    fetched: u32,
     fetches: u32,
 }
 
 impl UndoPages for Ring {
     ghost use Rattle.std.specs.Prelude.{◌≡◌, ◌-◌, ℕ, MatchOption, slice_get, refl};
     ghost use Rattle.std.proofs.Common.{◌∙◌, subst};
-    ghost use Rattle.version_laws.specs.Types.{HoldsTable, HoldsUndo, IsInUse};
+    ghost use Rattle.version_laws.specs.Types.{HoldsUndo, IsInUse};
 
     type Fault = u32;
 
-    ghost has_list = { λ sh R r. HoldsTable R r.table × ((u : ℕ) → MatchOption (slice_get r.blocks.items (u - 37)) (IsInUse sh R u → ⊥) (HoldsUndo R u)) };
+    ghost has_list = { λ sh R r. (u : ℕ) → MatchOption (slice_get r.blocks.items (u - 37)) (IsInUse sh R u → ⊥) (HoldsUndo R u) };
 
-    ghost fetched = { λ r. r.fetched };
+    ghost lends = { λ u r. Unit {0} };
 
-    ghost looked = { λ a b. (a.table ≡ b.table) × (a.blocks.items ≡ b.blocks.items) };
+    ghost looked = { λ a b. a.blocks.items ≡ b.blocks.items };
 
     ghost failed = { λ a b f. Unit {0} };
 
     ghost is_sound = { λ f. ⊥ };
 
-    fn fetch(&mut self, block: u32) -> Result<(), u32> {
-        self.fetched = block;
+    fn fetch_undo(&mut self, block: u32) -> Result<(), u32> {
+        let _ = block;
         self.fetches = self.fetches.saturating_add(1);
         Ok(())
     }
 
-    fn table(&self) -> &TxnBlock {
-        &self.table
-    }
-
-    fn undo(&self) -> Option<&UndoBlock> {
+    fn undo(&self, block: u32) -> Option<&UndoBlock> {
         self.blocks
             .as_slice()
-            .get((self.fetched as usize).saturating_sub(37))
+            .get((block as usize).saturating_sub(37))
     }
 
-    fn refuse(&mut self) -> u32 {
-        self.fetched
+    fn refuse_undo(&mut self, block: u32) -> u32 {
+        block
     }
 
-    ghost kept = { λ sh R a b e h. (subst (HoldsTable R) e.0 h.0, λ u. subst (λ bs. MatchOption (slice_get bs (u - 37)) (IsInUse sh R u → ⊥) (HoldsUndo R u)) e.1 (h.1 u)) };
+    ghost kept = { λ sh R a b e h. λ u. subst (λ bs. MatchOption (slice_get bs (u - 37)) (IsInUse sh R u → ⊥) (HoldsUndo R u)) e (h u) };
 
-    ghost looked_none = { λ a. (refl, refl) };
+    ghost looked_none = { λ a. refl };
 
-    ghost looked_on = { λ a b c x y. (x.0 ∙ y.0, x.1 ∙ y.1) };
+    ghost looked_on = { λ a b c x y. x ∙ y };
 
     ghost failed_on = { λ a b c f x y. tt };
 }
@@ -218,12 +212,7 @@ fn two_blocks(alloc: Global) -> Result<Ring, Fail> {
     let mut blocks = Vec::new(alloc);
     blocks.push(first)?;
     blocks.push(second)?;
-    Ok(Ring {
-        table: table(alloc)?,
-        blocks,
-        fetched: 0,
-        fetches: 0,
-    })
+    Ok(Ring { blocks, fetches: 0 })
 }
 
 // A walk passes over another active transaction's images, of whichever block, and fetches a block once for the parts that
@@ -232,6 +221,7 @@ fn two_blocks(alloc: Global) -> Result<Ring, Fail> {
 #[test]
 fn walk_goes_down_through_undo(rt: HostRuntime) -> Result<(), Fail> {
     let alloc = rt.alloc();
+    let table = table(alloc)?;
     for (from, s, want) in [
         (at(37, 0, 1), 2, Ok(Seen::Row(at(38, 0, 0)))),
         (at(37, 0, 1), 1, Ok(Seen::TooOld(at(37, 9, 5)))),
@@ -242,13 +232,13 @@ fn walk_goes_down_through_undo(rt: HostRuntime) -> Result<(), Fail> {
     ] {
         let mut ring = two_blocks(alloc)?;
         assert_eq!(rt;
-            walk(&mut ring, from, Scn(s), None, 2),
+            walk(&mut ring, &table, from, Scn(s), None, 2),
             want,
             "{from:?} at {s}"
         );
     }
     let mut ring = two_blocks(alloc)?;
-    walk(&mut ring, at(37, 0, 1), Scn(2), None, 2).is_ok();
+    walk(&mut ring, &table, at(37, 0, 1), Scn(2), None, 2).is_ok();
     assert_eq!(rt; ring.fetches, 2);
     assert!(rt; matches!(image_at(&ring, at(38, 0, 0)), Some(slot) if slot.row == RowNo(8)));
     Ok(())

@@ -8,7 +8,18 @@ ghost use Rattle.page_says.specs.Levels.{SaysFirst, SaysSecond, SaysThird};
 
 use crate::WrongPage;
 use page_set::Page;
-use seg_base::{EXTENTS_OF_L2, MOST_EXTENT_BLOCKS};
+use seg_base::{EXTENTS_OF_L2, Lsn, MOST_EXTENT_BLOCKS};
+
+/// The incarnation of an extent, the LSN of the record by which its table got it, by the page of the extent's first level.
+pub fn incarnation_in(page: &Page) -> Result<Lsn, WrongPage>
+    ensures says { (sh : TheShape) (R : List Record) (index : ℕ) (e : Extent) → SaysFirst sh R index e page.now → IfOk result (λ l. l ≡ e.incarnation) }
+    ensures right { (sh : TheShape) (R : List Record) (index : ℕ) (e : Extent) → SaysFirst sh R index e page.now → IsOk result }
+{
+    let Page::First(map) = page else {
+        return Err(WrongPage);
+    };
+    Ok(map.incarnation())
+}
 
 /// The code of a data block, the nth of its extent, by the page of the extent's first level: that of its kept class, 1 to 5,
 /// once it is formatted, else 0.

@@ -9,3 +9,4 @@ pub mod Surviving
 pub mod Taking
 pub mod KeptBad
 pub mod Takes
+pub mod UndoLent

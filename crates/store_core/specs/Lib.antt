@@ -5,3 +5,4 @@ pub mod Refused
 pub mod Preparing
 pub mod Adding
 pub mod Putting
+pub mod Undo

@@ -18,6 +18,7 @@ mod refusing;
 mod store;
 #[cfg(test)]
 mod tests;
+mod undo;
 
 pub use asking::{Question, ask};
 pub use fault::{StoreFault, StoreOpen};

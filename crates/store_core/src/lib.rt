@@ -16,8 +16,6 @@ mod pages;
 mod putting;
 mod refusing;
 mod store;
-#[cfg(test)]
-mod tests;
 mod undo;
 
 pub use asking::{Question, ask};

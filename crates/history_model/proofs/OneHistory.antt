@@ -14,7 +14,8 @@ use Rattle.history_model.specs.Spans.{Span, span_of}
 use Rattle.history_model.specs.Makes.{Makes}
 use Rattle.history_model.specs.Legal.{Belongs, IsCalledBy, AreMade, made_none, made_one, AreTold, IsLegal}
 use Rattle.history_model.specs.Worked.{name_t, label_a, one_script, one_history, one_inserted}
-use Rattle.history_model.proofs.Passing.{FirstPass, passes_first}
+use Rattle.history_model.proofs.Passing.{passes_first}
+use Rattle.history_model.specs.Passing.{FirstPass}
 
 pub some_none : {A : Type 0} (x : A) → ◌≡◌ {A = Option A} (Some x) None → ⊥
 some_none x e = cc

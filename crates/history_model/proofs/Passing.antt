@@ -6,20 +6,8 @@ use Rattle.history_text.specs.declared.refusal.Refusal.{Refusal}
 use Rattle.history_text.specs.declared.refusal.Refusal.TheVariants as why
 use Rattle.history_model.specs.Spans.{Span}
 use Rattle.history_model.specs.Order.{is_first_tested}
-use Rattle.history_model.specs.Causes.{IsNoTable, IsTableThere, IsTooManyTables, IsMovementOff, IsTransactionOpen, IsShrinkBusy, IsLogFull, IsNotDataBlock, IsBadValue, IsUnbound, Cause}
-
--- none of the ten applies
-pub record FirstPass (sh : Shape) (x : Span) (st : Statement) : Type 0 where
-  pub table : IsNoTable x st → ⊥
-  pub new_name : IsTableThere x st → ⊥
-  pub few_tables : IsTooManyTables x st → ⊥
-  pub movement : IsMovementOff x st → ⊥
-  pub no_transaction : IsTransactionOpen x st → ⊥
-  pub unshrunk : (v : ℕ) → IsShrinkBusy x st v → ⊥
-  pub log : IsLogFull x st → ⊥
-  pub data_block : (b : ℕ) → IsNotDataBlock sh x st b → ⊥
-  pub value : (v : ℕ) → IsBadValue st v → ⊥
-  pub label : (l : List ℕ) → IsUnbound x st l → ⊥
+use Rattle.history_model.specs.Causes.{Cause}
+use Rattle.history_model.specs.Passing.{FirstPass}
 
 pub passes_first : (sh : Shape) (x : Span) (st : Statement) (read : ℕ) → FirstPass sh x st → (y : Refusal) → is_first_tested y ≡ true → Cause sh x st read y → ⊥
 passes_first sh x st read f why.NoTable e h = f.table h

@@ -19,7 +19,8 @@ use Rattle.history_model.specs.Makes.{Makes}
 use Rattle.history_model.specs.Legal.{Belongs, BelongsTo, IsCalledBy, AreMade, made_none, made_one, AreTold, IsLegal}
 use Rattle.history_model.specs.Worked.{name_t, label_a, text_one, text_two, text_three, update_a, two_scripts, two_records, two_history, one_inserted}
 use Rattle.history_model.proofs.Targets.{one_obj, one_row}
-use Rattle.history_model.proofs.Passing.{FirstPass, passes_first}
+use Rattle.history_model.proofs.Passing.{passes_first}
+use Rattle.history_model.specs.Passing.{FirstPass}
 use Rattle.history_model.proofs.OneHistory.{span_at, some_none, none_some, not_full, none_formatted, table_passes, insert_passes, commit_passes, scan_passes}
 
 -- its records are lawful

@@ -3,6 +3,7 @@ pub mod Spans
 pub mod Released
 pub mod Causes
 pub mod Order
+pub mod Passing
 pub mod RowMeans
 pub mod TableMeans
 pub mod ShrinkMeans

@@ -1,0 +1,10 @@
+pub mod Told
+pub mod Owned
+pub mod LegalLaw
+pub mod Marks
+pub mod Frames
+pub mod Scans
+pub mod Starts
+pub mod RefusedLaw
+pub mod Shrinks
+pub mod Telling

@@ -1,0 +1,5 @@
+use Rattle.history_laws.proofs.Shrinks as laws
+use Rattle.history_laws.proofs.lowers_mean.Goals as goal
+
+pub returns : goal.returns
+returns c = laws.lowers_mean

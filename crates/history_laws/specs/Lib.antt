@@ -1,0 +1,9 @@
+pub mod Events
+pub mod Keeping
+pub mod Working
+pub mod Others
+pub mod Scans
+pub mod Starts
+pub mod Refusals
+pub mod Shrinks
+pub mod Telling

@@ -1,0 +1,202 @@
+//! Laws of legal histories: what stays, what an event of one session keeps of the whole, what it leaves of the work of the others,
+//! and what a scan gathers while they go on. Each is the contract of a function that does nothing.
+#![tactic(auto)]
+
+ghost use Rattle.history_laws.specs.Keeping.{EntriesAreLegal, EntriesStay, OwnersAreOne, RecordsAreLegal, RecordsBelong, StartsAreLegal, WaysAreKnown};
+ghost use Rattle.history_laws.specs.Others.{EventsLeaveTransactions, EventsLeaveWork, RecordsLeaveWork};
+ghost use Rattle.history_laws.specs.Refusals.{AgainIsRefused, BusyIsRefused, EntriesPass, FoundPass, InsertsPass, MaxExtentsIsRefused, NoRowIsRefused, NoSlotIsRefused, NoSpaceIsRefused, UndoFullIsRefused, WritesPass};
+ghost use Rattle.history_laws.specs.Shrinks.{CompactsMean, LastExtentsStay, LowersMean, ShrinksStop, StaysMean};
+ghost use Rattle.history_laws.specs.Starts.{StartsEnd, StartsGoOn};
+ghost use Rattle.history_laws.specs.Telling.{EntriesKeep, OthersAreTold, OwnIsTold, SpansBegin, StartsKeep};
+ghost use Rattle.history_laws.specs.Scans.{EmptyScansMean, MarksMean, ScansMean, ScansOpen, ScansRead};
+
+/// What each start and each entry says of some records it says of every list that begins with them, whatever was added: so an
+/// event proves its own entry alone.
+pub fn entries_stay()
+    ensures { EntriesStay }
+{}
+
+/// A start that stands keeps the whole legal.
+pub fn starts_are_legal()
+    ensures { StartsAreLegal }
+{}
+
+/// So do the records that an event may add, also where it doesn't come to its end.
+pub fn records_are_legal()
+    ensures { RecordsAreLegal }
+{}
+
+/// So does an entry that stands.
+pub fn entries_are_legal()
+    ensures { EntriesAreLegal }
+{}
+
+/// What is under way is of a session of the scripts, and began after the records that the call found.
+pub fn ways_are_known()
+    ensures { WaysAreKnown }
+{}
+
+/// A record that has an owner stands in the range of exactly one entry or statement under way of its session.
+pub fn owners_are_one()
+    ensures { OwnersAreOne }
+{}
+
+/// Each record of the kinds that belong to a statement belongs to exactly one.
+pub fn records_belong()
+    ensures { RecordsBelong }
+{}
+
+/// A record of one session leaves the work of another, but that it may mark a scan.
+pub fn records_leave_work()
+    ensures { RecordsLeaveWork }
+{}
+
+/// So does an event.
+pub fn events_leave_work()
+    ensures { EventsLeaveWork }
+{}
+
+/// It leaves the other session its transaction, or none.
+pub fn events_leave_transactions()
+    ensures { EventsLeaveTransactions }
+{}
+
+/// A scan that opens with a block to read is under way.
+pub fn scans_open()
+    ensures { ScansOpen }
+{}
+
+/// One without has all of its view's rows, which are none.
+pub fn empty_scans_mean()
+    ensures { EmptyScansMean }
+{}
+
+/// A scan that isn't marked, and reads a block, has what its blocks gave as it began.
+pub fn scans_read()
+    ensures { ScansRead }
+{}
+
+/// When all blocks are read it has each row of its view once, in order of row number.
+pub fn scans_mean()
+    ensures { ScansMean }
+{}
+
+/// A mark is the cause of a refusal.
+pub fn marks_mean()
+    ensures { MarksMean }
+{}
+
+/// Where the place of a row tells that it changed, the start is noted and another one begins.
+pub fn starts_go_on()
+    ensures { StartsGoOn }
+{}
+
+/// The last one that may be is the refusal.
+pub fn starts_end()
+    ensures { StartsEnd }
+{}
+
+/// A row that isn't there, past the first tests.
+pub fn no_row_is_refused()
+    ensures { NoRowIsRefused }
+{}
+
+/// A row that another active transaction keeps.
+pub fn busy_is_refused()
+    ensures { BusyIsRefused }
+{}
+
+/// As many starts as there may be.
+pub fn again_is_refused()
+    ensures { AgainIsRefused }
+{}
+
+/// A block without a list entry, of a row that is there and free.
+pub fn no_slot_is_refused()
+    ensures { NoSlotIsRefused }
+{}
+
+/// No block takes the row and no extent is free.
+pub fn no_space_is_refused()
+    ensures { NoSpaceIsRefused }
+{}
+
+/// No block takes the row and the table has as many extents as it may have.
+pub fn max_extents_is_refused()
+    ensures { MaxExtentsIsRefused }
+{}
+
+/// Undo is full for the record, with a block for the row.
+pub fn undo_full_is_refused()
+    ensures { UndoFullIsRefused }
+{}
+
+/// An insert passes the causes that speak of a row.
+pub fn inserts_pass()
+    ensures { InsertsPass }
+{}
+
+/// A row that may be changed is there and free.
+pub fn writes_pass()
+    ensures { WritesPass }
+{}
+
+/// Where no block that must be changed lacks a list entry, that cause is passed too.
+pub fn entries_pass()
+    ensures { EntriesPass }
+{}
+
+/// A search that finds a block passes the causes that none does.
+pub fn found_pass()
+    ensures { FoundPass }
+{}
+
+/// A shrink that stops has what its entry will say.
+pub fn shrinks_stop()
+    ensures { ShrinksStop }
+{}
+
+/// One that only compacts means it.
+pub fn compacts_mean()
+    ensures { CompactsMean }
+{}
+
+/// One that lowers means it with the Lower at its end.
+pub fn lowers_mean()
+    ensures { LowersMean }
+{}
+
+/// Or with the last extent that stays.
+pub fn stays_mean()
+    ensures { StaysMean }
+{}
+
+/// It stays where the longest suffix of vacant extents after the first is empty.
+pub fn last_extents_stay()
+    ensures { LastExtentsStay }
+{}
+
+/// A start of a session's next statement keeps the whole legal.
+pub fn starts_keep()
+    ensures { StartsKeep }
+{}
+
+/// So does the entry of the statement under way that means its row now.
+pub fn entries_keep()
+    ensures { EntriesKeep }
+{}
+
+/// A statement that starts now begins with the records as they are.
+pub fn spans_begin()
+    ensures { SpansBegin }
+{}
+
+/// A start puts its statement under way, and an entry ends it.
+pub fn own_is_told()
+    ensures { OwnIsTold }
+{}
+
+/// What another session tells leaves what is under way and the count of entries.
+pub fn others_are_told()
+    ensures { OthersAreTold }
+{}

@@ -1,35 +1,33 @@
 -- What a record of another session leaves of a session's work.
-use Rattle.std.proofs.Common.{◌≡◌, ◌≢◌, ℕ, suc, ◌≤◌, true, false, cond, ◌||◌, ◌&&◌, eqb, ltb, List, [], ◌∷◌, length, drop, Option, Some, None, refl, sym, ◌∙◌, ap, ap₂, subst, arith, le_trans, le_refl, le-ltb, true≢false, eqb-true, ne_eqb}
+use Rattle.std.proofs.Common.{◌≡◌, ℕ, ◌≤◌, true, false, cond, eqb, List, [], ◌∷◌, length, drop, Option, Some, None, refl, sym, ◌∙◌, ap, ap₂, subst, arith, le_trans, le_refl, le-ltb, true≢false, eqb-true, ne_eqb}
 use Rattle.std.specs.Prelude.{MatchOption}
-use Rattle.seg_words.proofs.Lemmas.{cond-false, or_right, and_parts, cond_both}
+use Rattle.seg_words.proofs.Lemmas.{cond-false, or_right, and_parts}
 use Rattle.seg_words.specs.Types.{Shape}
 use Rattle.redo_record.specs.declared.record.Record.TheVariants as made
 use Rattle.redo_model.specs.Records.{Record}
-use Rattle.redo_model.specs.Model.{Effect, effect_of, prefix, commit_count, number_or_zero, is_byte_list, table_named, has_movement, HasMovement, IsKindAllowed, AreAllowed}
+use Rattle.redo_model.specs.Model.{Effect, effect_of, prefix, commit_count, number_or_zero, is_byte_list, table_named, HasMovement, IsKindAllowed}
 use Rattle.redo_laws.specs.Stays.{Later, IsNotOf, not_later, one_later}
 use Rattle.redo_laws.proofs.lists.Prefixes.{prefix_more}
-use Rattle.session_laws.specs.Sessions.{own_of, txn_or_zero, own_number, IsOf}
+use Rattle.session_laws.specs.Sessions.{own_of, txn_or_zero}
 use Rattle.session_laws.specs.Owners.{Leaves}
 use Rattle.session_laws.proofs.OwnersLaw.{others_leave_sessions}
 use Rattle.scan_laws.specs.Changes.{changed_between}
 use Rattle.scan_laws.proofs.ChangesLaw.{counts_rise}
-use Rattle.shrink_laws.specs.declared.skip.Skip.{Skip}
 use Rattle.shrink_laws.specs.Grown.{lowers}
 use Rattle.shrink_laws.specs.Stops.{SkipsStand}
 use Rattle.shrink_laws.proofs.CursorLaw.{cursor_stays, skips_are_kept}
 use Rattle.change_laws.specs.Looks.{WasFound}
 use Rattle.script_text.specs.declared.statement.Statement.{Statement}
 use Rattle.script_text.specs.declared.statement.Statement.TheVariants as asked
-use Rattle.history_text.specs.declared.outcome.Stop.{Stop}
 use Rattle.history_model.specs.declared.history.HistoryItem.{HistoryItem}
 use Rattle.history_model.specs.History.{Task}
 use Rattle.history_model.specs.Spans.{Span}
 use Rattle.history_model.specs.Released.{Gone, gone_by, or_else, first_gone}
-use Rattle.history_model.specs.ShrinkMeans.{moves_after, move_count, StopIs}
+use Rattle.history_model.specs.ShrinkMeans.{move_count, StopIs}
 use Rattle.redo_laws.specs.Scan.{scan_list}
 use Rattle.history_laws.specs.Events.{Goes, goes_none, goes_one}
 use Rattle.history_laws.specs.Working.{now_of, grown, IsIdle, InsertStands, FoundAt, RowWork, HasStarted, PlaceStands, RowStands, BackStands, OpenScan, ScanStands, marked_by, marked_since, MoveWork, ShrinkStands, StoppedWork, StoppedStands, Work, Inserting, OnRow, TakingBack, Scanning, Shrinking, Lowering, WorkStands, work_after, work_since}
-use Rattle.history_laws.specs.Others.{Spares, SparesWork, SparesSince, RecordsLeaveWork, EventsLeaveWork, EventsLeaveTransactions}
+use Rattle.history_laws.specs.Others.{Spares, SparesWork, RecordsLeaveWork, EventsLeaveWork, EventsLeaveTransactions}
 use Rattle.history_laws.proofs.LegalLaw.{adds_of}
 use Rattle.history_laws.proofs.Marks.{or_none, or_assoc, first_more, none_since}
 

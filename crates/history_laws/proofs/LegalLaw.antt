@@ -1,28 +1,25 @@
 -- What an event keeps: its start, its records, its entry.
-use Rattle.std.proofs.Common.{◌≡◌, ◌≢◌, ◌⊎◌, ℕ, suc, ◌≤◌, ◌<◌, true, false, List, [], ◌∷◌, length, Option, Some, None, refl, sym, ◌∙◌, ap, subst, arith, le_trans, le_refl, inl, inr, eqb, eqb-true, true≢false}
+use Rattle.std.proofs.Common.{◌≡◌, ℕ, ◌≤◌, ◌<◌, true, false, List, ◌∷◌, length, Option, Some, None, sym, ◌∙◌, subst, arith, le_trans, le_refl, inl, inr, eqb, eqb-true, true≢false}
 use Rattle.seg_words.proofs.Lemmas.{cases_Bool, eqb-false}
 use Rattle.seg_words.specs.Types.{Shape}
 use Rattle.redo_record.specs.declared.record.Record.TheVariants as made
 use Rattle.redo_model.specs.Records.{Record}
-use Rattle.redo_model.specs.Model.{Extends, AreAllowed, IsLawful}
+use Rattle.redo_model.specs.Model.{Extends, AreAllowed}
 use Rattle.redo_model.specs.Lists.{same, more}
 use Rattle.redo_laws.proofs.lists.Prefixes.{extends_length}
-use Rattle.session_laws.specs.Sessions.{own_of, IsOf}
+use Rattle.session_laws.specs.Sessions.{IsOf}
 use Rattle.session_laws.proofs.OwnersLaw.{sessions_own_transactions}
 use Rattle.script_text.specs.declared.statement.Statement.{Statement}
 use Rattle.script_text.specs.declared.statement.Statement.TheVariants as asked
-use Rattle.history_text.specs.declared.entry.Entry.{Entry}
-use Rattle.history_model.specs.declared.history.Start.{Start}
-use Rattle.history_model.specs.declared.history.Kept.{Kept}
 use Rattle.history_model.specs.declared.history.HistoryItem.{HistoryItem}
 use Rattle.history_model.specs.declared.history.HistoryItem.TheVariants as item
-use Rattle.history_model.specs.History.{statement_of, reached, Task, under_way, owner}
+use Rattle.history_model.specs.History.{statement_of, reached, owner}
 use Rattle.history_model.specs.Makes.{Makes}
-use Rattle.history_model.specs.Legal.{BelongsTo, Belongs, IsCalledBy, StatesClass, IsMade, AreMade, made_none, made_one, StartStands, EntryStands, AreTold, IsLegal}
+use Rattle.history_model.specs.Legal.{BelongsTo, Belongs, IsCalledBy, IsMade, AreMade, made_none, made_one, AreTold, IsLegal}
 use Rattle.history_laws.specs.Events.{Does, DoesAlone, MayAdd, Goes, goes_none, goes_one}
 use Rattle.history_laws.specs.Keeping.{StartsAreLegal, RecordsAreLegal, EntriesAreLegal, is_of_one, RecordsBelong}
 use Rattle.history_laws.proofs.Told.{told_more}
-use Rattle.history_laws.proofs.Owned.{none_some, owner_way, start_same, entry_same, owner_under, reached_within, ways_are_known}
+use Rattle.history_laws.proofs.Owned.{owner_way, start_same, entry_same, owner_under, reached_within, ways_are_known}
 
 -- belonging, where the owners are the same
 

@@ -1,5 +1,5 @@
 -- Who owns a record, as the history grows.
-use Rattle.std.proofs.Common.{◌≡◌, ℕ, suc, ◌+◌, ◌≤◌, ◌<◌, true, false, cond, ◌&&◌, eqb, leb, ltb, List, [], ◌∷◌, length, Option, Some, None, refl, sym, ◌∙◌, ap, subst, arith, le_trans, le_refl, eqb-true, true≢false, leb-true, le-leb, le-ltb, lt-ltb}
+use Rattle.std.proofs.Common.{◌≡◌, ℕ, suc, ◌+◌, ◌≤◌, ◌<◌, true, false, cond, ◌&&◌, eqb, leb, ltb, List, [], ◌∷◌, length, Option, Some, None, refl, sym, ◌∙◌, ap, subst, le_trans, le_refl, eqb-true, leb-true, le-leb, le-ltb, lt-ltb}
 use Rattle.seg_words.proofs.Lemmas.{cond-false, cond-true, lt-leb}
 use Rattle.seg_words.specs.Types.{Shape}
 use Rattle.redo_model.specs.Records.{Record}
@@ -10,9 +10,8 @@ use Rattle.history_model.specs.declared.history.Kept.{Kept}
 use Rattle.history_model.specs.declared.history.HistoryItem.{HistoryItem}
 use Rattle.history_model.specs.declared.history.HistoryItem.TheVariants as item
 use Rattle.history_model.specs.History.{IsSession, reached, Task, task_of, under_way, owner}
-use Rattle.history_model.specs.Legal.{EntryStands, AreTold}
+use Rattle.history_model.specs.Legal.{AreTold}
 use Rattle.history_laws.specs.Keeping.{IsUnderWay, WaysAreKnown, entries_hold, way_holds, holders, OwnersAreOne}
-use Rattle.history_laws.proofs.Told.{entries_stay}
 
 pub none_some : {A : Type 0} (x : A) (P : Type 0) → ◌≡◌ {A = Option A} None (Some x) → P
 none_some x P e = absurd cc

@@ -1,7 +1,7 @@
 -- What an open scan gathers, and what it has at its end.
-use Rattle.std.proofs.Common.{◌≡◌, ℕ, zero, suc, ◌+◌, ◌-◌, ◌≤◌, ◌<◌, true, false, cond, ◌||◌, eqb, eq-eqb, List, [], ◌∷◌, ◌++◌, Option, Some, None, refl, sym, ◌∙◌, ap, ap₂, subst, arith, le_refl, length, take, drop, map, get_or, append_assoc}
+use Rattle.std.proofs.Common.{◌≡◌, ℕ, zero, suc, ◌-◌, ◌≤◌, ◌<◌, true, false, cond, eqb, eq-eqb, List, [], ◌∷◌, ◌++◌, Option, Some, None, refl, sym, ◌∙◌, ap, ap₂, subst, arith, le_refl, length, take, drop, map, get_or, append_assoc}
 use Rattle.std.specs.Prelude.{option_to_list, slice_get}
-use Rattle.std.proofs.lemmas.Option.{slice_get-get_or, slice_get_within}
+use Rattle.std.proofs.lemmas.Option.{slice_get-get_or}
 use Rattle.seg_words.proofs.Lemmas.{or_left, or_right}
 use Rattle.seg_words.specs.Types.{Shape}
 use Rattle.redo_model.specs.Records.{Record, Table}
@@ -18,13 +18,12 @@ use Rattle.session_laws.specs.Sessions.{own_of, txn_or_zero, own_number, own_row
 use Rattle.session_laws.proofs.OwnersLaw.{sessions_own_transactions}
 use Rattle.scan_laws.proofs.RowsStayLaw.{rows_of_blocks_stay}
 use Rattle.scan_laws.proofs.StayingLaw.{unreleased_are_read}
-use Rattle.script_text.specs.declared.statement.Statement.TheVariants as asked
 use Rattle.history_text.specs.declared.outcome.RowOut.{RowOut}
 use Rattle.history_model.specs.Spans.{Span}
-use Rattle.history_model.specs.Released.{Gone, first_gone}
+use Rattle.history_model.specs.Released.{first_gone}
 use Rattle.history_model.specs.TableMeans.{row_out, last_of}
 use Rattle.history_laws.specs.Working.{OpenScan, ScanStands}
-use Rattle.history_laws.specs.Scans.{IsOpened, ScansOpen, EmptyScansMean, Reads, ScansRead, IsSorted, Sorts, ScansMean, MarksMean}
+use Rattle.history_laws.specs.Scans.{ScansOpen, EmptyScansMean, Reads, ScansRead, IsSorted, Sorts, ScansMean, MarksMean}
 use Rattle.history_laws.proofs.Marks.{none_since, none_released, fewer_gone, drop_fewer}
 
 -- lists

@@ -1,5 +1,5 @@
 -- What a stopped shrink means.
-use Rattle.std.proofs.Common.{◌≡◌, ◌⊎◌, ℕ, zero, suc, ◌+◌, ◌≤◌, ◌<◌, Bool, true, false, cond, List, [], ◌∷◌, length, drop, Option, Some, refl, sym, ◌∙◌, ap, subst, arith, le_refl, inl, inr}
+use Rattle.std.proofs.Common.{◌≡◌, ℕ, zero, suc, ◌+◌, ◌≤◌, ◌<◌, Bool, true, false, cond, List, [], ◌∷◌, length, drop, Some, refl, sym, ◌∙◌, ap, subst, arith, le_refl, inl, inr}
 use Rattle.seg_words.specs.Types.{Shape}
 use Rattle.redo_model.specs.Records.{Record, Lower}
 use Rattle.redo_model.specs.Model.{prefix, Extent, extents_of, extent_at, is_vacant, kept_length}
@@ -7,7 +7,7 @@ use Rattle.redo_laws.proofs.lists.Prefixes.{prefix_all, prefix_more}
 use Rattle.shrink_laws.specs.Stops.{SkipsStand}
 use Rattle.history_model.specs.Spans.{Span}
 use Rattle.history_model.specs.ShrinkMeans.{move_count, StopIs, MovesMean, LastStays}
-use Rattle.history_laws.specs.Working.{grown, StoppedWork, StoppedStands}
+use Rattle.history_laws.specs.Working.{StoppedWork, StoppedStands}
 use Rattle.history_laws.specs.Shrinks.{ShrinksStop, CompactsMean, LowersMean, StaysMean, LastExtentsStay}
 
 pub shrinks_stop : ShrinksStop

@@ -1,15 +1,14 @@
 -- Starts that are noted one after the other.
-use Rattle.std.proofs.Common.{◌≡◌, ℕ, suc, ◌+◌, ◌≤◌, ◌<◌, Bool, true, false, cond, ◌||◌, ◌&&◌, leb, List, [], ◌∷◌, ◌++◌, length, Option, Some, None, refl, sym, ◌∙◌, ap, subst, arith, le_trans, le_refl, leb-true, true≢false, inl, inr}
+use Rattle.std.proofs.Common.{◌≡◌, ℕ, suc, ◌≤◌, ◌<◌, true, cond, ◌||◌, ◌&&◌, leb, List, [], ◌∷◌, ◌++◌, length, Option, refl, sym, ◌∙◌, subst, arith, le_refl, leb-true, true≢false, inl, inr}
 use Rattle.std.specs.Prelude.{MatchOption}
-use Rattle.seg_words.proofs.Lemmas.{or_left, or_cases, and_parts, cond_both}
-use Rattle.seg_words.specs.Types.{Writer}
+use Rattle.seg_words.proofs.Lemmas.{or_left, or_cases, and_parts}
 use Rattle.redo_model.specs.Records.{Record, Commit, Move}
 use Rattle.redo_model.specs.Model.{commit_count, is_commit, steps, effect_of, txn_effect}
 use Rattle.scan_laws.specs.Changes.{commits_row, moves_row, changed_above, changed_between}
 use Rattle.scan_laws.proofs.ChangesLaw.{counts_rise, changes_tell}
 use Rattle.history_model.specs.Causes.{AreStarts}
 use Rattle.history_laws.specs.Working.{FoundAt, HasStarted, PlaceStands}
-use Rattle.history_laws.specs.Starts.{noted, StartsGoOn, StartsEnd}
+use Rattle.history_laws.specs.Starts.{StartsGoOn, StartsEnd}
 
 -- what changes a row is a commit
 is_numbered : (R : List Record) (r : Record) (n : ℕ) → (commits_row (txn_effect r) (steps R) n || moves_row (effect_of r) n) ≡ true → is_commit r ≡ true

@@ -1,21 +1,17 @@
 -- What a start and an entry that are made now keep, and what they leave.
-use Rattle.std.proofs.Common.{◌≡◌, ◌≢◌, ℕ, suc, ◌≤◌, true, false, cond, eqb, List, ◌∷◌, length, Option, Some, None, refl, sym, ap, subst, le_refl, ne_eqb, eq-eqb}
+use Rattle.std.proofs.Common.{◌≡◌, ℕ, List, length, None, refl, sym, ap, subst, le_refl, ne_eqb, eq-eqb}
 use Rattle.seg_words.proofs.Lemmas.{cond-true, cond-false}
-use Rattle.seg_words.specs.Types.{Shape}
 use Rattle.redo_model.specs.Records.{Record}
 use Rattle.redo_model.specs.Model.{prefix}
 use Rattle.redo_laws.proofs.lists.Prefixes.{prefix_all}
 use Rattle.session_laws.specs.Sessions.{own_of}
 use Rattle.script_text.specs.declared.statement.Statement.{Statement}
-use Rattle.history_text.specs.declared.entry.Entry.{Entry}
-use Rattle.history_model.specs.declared.history.Kept.{Kept}
-use Rattle.history_model.specs.declared.history.HistoryItem.{HistoryItem}
 use Rattle.history_model.specs.declared.history.HistoryItem.TheVariants as item
 use Rattle.history_model.specs.History.{statement_of, Task}
 use Rattle.history_model.specs.Spans.{Span, span_of}
 use Rattle.history_model.specs.Means.{Means, PassesOver}
 use Rattle.history_laws.specs.Working.{now_of}
-use Rattle.history_laws.specs.Telling.{start_now, entry_now, StartsKeep, EntriesKeep, SpansBegin, OwnIsTold, OtherTold, OthersAreTold}
+use Rattle.history_laws.specs.Telling.{start_now, entry_now, StartsKeep, EntriesKeep, SpansBegin, OwnIsTold, OthersAreTold}
 use Rattle.history_laws.proofs.Owned.{reached_within, ways_are_known}
 use Rattle.history_laws.proofs.LegalLaw.{made_longer, starts_are_legal, entries_are_legal}
 

@@ -1,8 +1,7 @@
 -- What a start and an entry say stays in longer lists.
-use Rattle.std.proofs.Common.{◌≡◌, ℕ, ◌≤◌, List, [], ◌∷◌, length, Option, Some, None, refl, sym, ap, ap₂, subst, arith, le_trans}
+use Rattle.std.proofs.Common.{◌≡◌, ℕ, ◌≤◌, List, [], ◌∷◌, length, None, sym, ap₂, subst, arith, le_trans}
 use Rattle.seg_words.specs.Types.{Shape}
 use Rattle.redo_model.specs.Records.{Record}
-use Rattle.redo_model.specs.Model.{prefix, Extends}
 use Rattle.redo_model.specs.Lists.{same, more}
 use Rattle.redo_laws.proofs.lists.Prefixes.{prefix_more}
 use Rattle.session_laws.specs.Sessions.{own_of}
@@ -12,7 +11,7 @@ use Rattle.history_model.specs.declared.history.Start.{Start}
 use Rattle.history_model.specs.declared.history.Kept.{Kept}
 use Rattle.history_model.specs.declared.history.HistoryItem.{HistoryItem}
 use Rattle.history_model.specs.declared.history.HistoryItem.TheVariants as item
-use Rattle.history_model.specs.History.{Task, statement_of, entry_count}
+use Rattle.history_model.specs.History.{Task, statement_of}
 use Rattle.history_model.specs.Spans.{Span, span_of}
 use Rattle.history_model.specs.Means.{Means, PassesOver}
 use Rattle.history_model.specs.Legal.{StartStands, EntryStands, Stands, AreTold}

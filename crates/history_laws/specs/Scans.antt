@@ -1,8 +1,7 @@
 -- A scan from its first event to its last: what it gathers are the rows that its blocks gave as it began, whatever others moved,
 -- took back or reused meanwhile; so when all blocks are read it has each row of its view, once.
-use Rattle.std.specs.Prelude.{◌≡◌, ℕ, suc, ◌≤◌, ◌<◌, List, [], ◌∷◌, ◌++◌, length, map, drop, Option, Some, None, slice_get}
+use Rattle.std.specs.Prelude.{◌≡◌, ℕ, suc, ◌≤◌, ◌<◌, List, [], ◌++◌, length, map, Some, None, slice_get}
 use Rattle.seg_words.specs.Types.{Shape}
-use Rattle.redo_model.specs.Records.{Record}
 use Rattle.redo_model.specs.Model.{commit_count, rows_at, table_named, AreAllowed}
 use Rattle.redo_laws.specs.Scan.{scan_list, numbered, IsInOrder}
 use Rattle.session_laws.specs.Sessions.{own_of, txn_or_zero}

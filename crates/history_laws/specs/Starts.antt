@@ -2,7 +2,6 @@
 -- there may be are a refusal.
 use Rattle.std.specs.Prelude.{◌≡◌, ℕ, suc, ◌<◌, [], ◌∷◌, ◌++◌, length, Some, None}
 use Rattle.seg_words.specs.Types.{Shape}
-use Rattle.redo_model.specs.Model.{AreAllowed}
 use Rattle.change_laws.specs.Causes.{IsChanged}
 use Rattle.script_text.specs.declared.statement.Statement.{Statement}
 use Rattle.history_model.specs.declared.limit.TheConstants.{MOST_STARTS}

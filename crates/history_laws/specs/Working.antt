@@ -1,6 +1,6 @@
 -- What is true of a session between the events of a statement that is under way, whatever other sessions do: one record for each
 -- kind of work. The span ends with the records as they are now. This engine's own.
-use Rattle.std.specs.Prelude.{◌≡◌, ◌⊎◌, ℕ, ◌+◌, ◌≤◌, ◌<◌, Bool, true, false, List, [], ◌∷◌, length, take, drop, map, MatchOption, Option, Some, None}
+use Rattle.std.specs.Prelude.{◌≡◌, ℕ, ◌+◌, ◌≤◌, ◌<◌, true, false, List, [], ◌∷◌, length, take, drop, map, MatchOption, Option, Some, None}
 use Rattle.seg_words.specs.Types.{Shape, Rowid, UndoAddr}
 use Rattle.redo_model.specs.Records.{Record}
 use Rattle.redo_model.specs.Model.{Effect, prefix, commit_count, is_backed, table_named, HasMovement}
@@ -17,7 +17,6 @@ use Rattle.script_text.specs.declared.statement.Statement.TheVariants as asked
 use Rattle.history_text.specs.declared.outcome.RowOut.{RowOut}
 use Rattle.history_text.specs.declared.outcome.Stop.{Stop}
 use Rattle.history_model.specs.declared.limit.TheConstants.{MOST_STARTS}
-use Rattle.history_model.specs.declared.history.HistoryItem.{HistoryItem}
 use Rattle.history_model.specs.History.{Task}
 use Rattle.history_model.specs.Spans.{Span}
 use Rattle.history_model.specs.Released.{Gone, gone_by, or_else, first_gone}

@@ -53,7 +53,7 @@ told_entry sh R c i t a l e d =
     a.all t (or_right (slots_name (slots_of R c.dba) t) _ (entry_named (entries_of R c.dba) t i (entry_there (entries_of R c.dba) t i l at) at)) d
 
 -- commit numbers are from 1
-number_from : (R : List Record) (t d : ℕ) → commit_number R t ≡ Some d → 1 ≤ d
+pub number_from : (R : List Record) (t d : ℕ) → commit_number R t ≡ Some d → 1 ≤ d
 number_from [] t d e = absurd (let x : ◌≡◌ {A = Option ℕ} None (Some d) = e in cc)
 number_from (Commit c ∷ R) t d e =
     (elim (eqb c.txn t) as (λ v. cond v (Some (suc (commit_count R))) (commit_number R t) ≡ Some d → 1 ≤ d) [
@@ -65,7 +65,7 @@ number_from (Commit c ∷ R) t d e =
     from n d x = let same : suc n ≡ d = cc in omega (arith, same)
 number_from (_ ∷ R) t d e = number_from R t d e
 
-stated_is : (R : List Record) (t d : ℕ) → commit_number R t ≡ Some d → is_forgotten R t ≡ false → stated_number R t ≡ d
+pub stated_is : (R : List Record) (t d : ℕ) → commit_number R t ≡ Some d → is_forgotten R t ≡ false → stated_number R t ≡ d
 stated_is R t d e f = cond-false _ _ _ f ∙ ap number_or_zero e
 
 -- a slot that was cleaned

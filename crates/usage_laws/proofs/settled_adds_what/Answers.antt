@@ -1,0 +1,5 @@
+use Rattle.usage_laws.proofs.SettledLaw as laws
+use Rattle.usage_laws.proofs.settled_adds_what.Goals as goal
+
+pub returns : goal.returns
+returns c = laws.settled_adds_what

@@ -1,0 +1,5 @@
+use Rattle.usage_laws.proofs.StaysLaw as laws
+use Rattle.usage_laws.proofs.settled_blocks.Goals as goal
+
+pub returns : goal.returns
+returns c = laws.settled_blocks

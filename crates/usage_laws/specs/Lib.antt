@@ -1,0 +1,6 @@
+pub mod Named
+pub mod Drafts
+pub mod Settling
+pub mod Told
+pub mod Worked
+pub mod Types

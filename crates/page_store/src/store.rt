@@ -101,6 +101,12 @@ pub fn open<D: Disk>(disk: &mut D, shape: Shape) -> Result<PageStore, PageFault>
 }
 
 impl PageStore {
+    pub fn shape(&self) -> Shape
+        ensures { result ≡ self.now }
+    {
+        self.shape
+    }
+
     /// Writes 1 to 32 pages to different blocks. At any moment of the call a crash leaves all pages as they were, or all
     /// of them with those of the batch, in a file as long as before. At `Ok` each crash from then on leaves them with
     /// those of the batch. It takes no memory. After an `Err` the data file has to be opened again.

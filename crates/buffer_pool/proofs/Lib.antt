@@ -1,0 +1,12 @@
+pub mod Entries
+pub mod Scans
+pub mod Drops
+pub mod Stores
+pub mod Decoded
+pub mod Fetches
+pub mod Gathered
+pub mod Installs
+pub mod Made
+pub mod Prepared
+pub mod Commits
+pub mod Batched

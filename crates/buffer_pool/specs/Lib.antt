@@ -1,0 +1,5 @@
+pub mod Frames
+pub mod Reading
+pub mod Preparing
+pub mod Batches
+pub mod Looks

@@ -64,6 +64,7 @@ due_frame upto f (Some g) due is = dirty_both f.dirty (nat_le (lsn_of f.page) up
   where
     same : g.dirty ≡ f.dirty
     same = cc
+
     dirty_both : (a b : Bool) → (a && b) ≡ true → g.dirty ≡ a → g.dirty ≡ true
     dirty_both true b h e = e
     dirty_both false b h e = absurd (true≢false (sym h))
@@ -254,6 +255,7 @@ settled_front n f a = record { at = λ d. rw (flips d) (decide d (nat_eq d n)) }
   where
     flips : (d : ℕ) → nat_eq n d ≡ nat_eq d n
     flips d = grind (arith, nat_tests)
+
     decide : (d : ℕ) (t : Bool) → cond t (Some (cleaned f)) (frame_at a d) ≡ cond (t || false) (option_map cleaned (cond t (Some f) (frame_at a d))) (cond t (Some f) (frame_at a d))
     decide d true = refl
     decide d false = refl
@@ -271,11 +273,14 @@ page_in_raw held (n ∷ ns) d bytes = decide (nat_eq n d) refl (page_in_raw held
 
 written_shown : (d : ℕ) (o : Option Frame) (p : Page) (bytes : List ℕ) → IsDirty o → IsShown d o bytes p → HasSpelling p → dba_of p ≡ d → page_over o (Zero d) ≡ p → IsShown d (option_map cleaned o) (spelling_of (page_over o (Zero d))) p
 written_shown d None p bytes dirty h fits at is = absurd dirty
-written_shown d (Some f) p bytes dirty h fits at is = (h.0, λ c. record {
-  spells = ap spelling_of is;
-  dba = at;
-  reads = ap (meaning_of d) (ap spelling_of is) ∙ ap (λ (n : ℕ). meaning_of n (spelling_of p)) (sym at) ∙ meaning_again p fits;
-})
+written_shown d (Some f) p bytes dirty h fits at is = (
+  h.0,
+  λ c. record {
+    spells = ap spelling_of is;
+    dba = at;
+    reads = ap (meaning_of d) (ap spelling_of is) ∙ ap (λ (n : ℕ). meaning_of n (spelling_of p)) (sym at) ∙ meaning_again p fits;
+  },
+)
 
 any_dirty : (held : List (ℕ × Frame)) (ns : List ℕ) (d : ℕ) → All (λ j. IsDirty (frame_at held j)) ns → list_any (λ b. nat_eq b d) ns ≡ true → IsDirty (frame_at held d)
 any_dirty held [] d all y = absurd (true≢false (sym y))
@@ -304,3 +309,6 @@ shows_put sh pages image ns batch old new dirty is settled back s = record {
 
 pub settled_blocks : (ns : List ℕ) (batch : List RawPage) (held old new : List (ℕ × Frame)) → batch ≡ map (raw_page held) ns → Settled ns old new → Settled (blocks_of batch) old new
 settled_blocks ns batch held old new is s = subst (λ (xs : List ℕ). Settled xs old new) (sym (ap blocks_of is ∙ blocks_raw held ns)) s
+
+pub dirty_there : (n : ℕ) (f : Frame) (k : ℕ) (es : List (ℕ × Frame)) → nat_eq k n ≡ false → IsDirty (frame_at ((n, f) ∷ es) k) → IsDirty (frame_at es k)
+dirty_there n f k es other h = rw other at h

@@ -127,6 +127,7 @@ add_dirty true o p f a d = (λ e. no_clean e, λ e. no_frame e)
   where
     no_clean : Some (clean_frame p) ≡ Some f → o ≡ Some f
     no_clean e = cc
+
     no_frame : o ≡ Some f → Some (clean_frame p) ≡ Some f
     no_frame e = let none : o ≡ None = a refl in cc
 add_dirty false o p f a d = (λ e. e, λ e. e)

@@ -113,3 +113,11 @@ reading_err sh d Spelled P Q NoMemory is = tt
 -- the block of the frame in front
 pub front_some : (d n : ℕ) (f : Frame) (es : List (ℕ × Frame)) → d ≡ n → is_some (frame_at ((n, f) ∷ es) d) ≡ true
 front_some d n f es e = let yes : nat_eq d n ≡ true = grind (arith, nat_tests) in rw yes refl
+
+-- with another frame in front
+pub front_pages : (sh : Shape) (n : ℕ) (f g : Frame) (es : List (ℕ × Frame)) → HasOnlyPages sh ((n, f) ∷ es) → HasOnlyPages sh ((n, g) ∷ es)
+front_pages sh n f g es old = record { at = λ d h. old.at d (decide d (nat_eq d n) h) }
+  where
+    decide : (d : ℕ) (t : Bool) → IsSome (cond t (Some g) (frame_at es d)) → IsSome (cond t (Some f) (frame_at es d))
+    decide d true h = refl
+    decide d false h = h

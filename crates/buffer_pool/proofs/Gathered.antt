@@ -43,15 +43,16 @@ module _ (sh : Shape) (pages : ℕ → List ℕ) where
       of_fault (BadPage b) is h = (
         or_first (nat_eq d b) (is_among ds b) (eq-eqb d b (sym h.0)),
         λ f at dirty. no_frame (frame_at held b) f (subst (λ (j : ℕ). frame_at held j ≡ None) (sym h.0) is) at,
-        λ has spelled. h.1 (subst (λ (j : ℕ). has_page sh j ≡ true) h.0 has) (subst (λ (j : ℕ). IsSpelled j (pages j)) h.0 spelled)
+        λ has spelled. h.1 (subst (λ (j : ℕ). has_page sh j ≡ true) h.0 has) (subst (λ (j : ℕ). IsSpelled j (pages j)) h.0 spelled),
       )
       of_fault NoMemory is h = tt
+
       decide : (o : Option Frame) → frame_at held d ≡ o → IsFetching sh d (IsSpelled d (pages d)) o (Err e) → WhyNotFetched sh pages held (d ∷ ds) e
       decide None is h = of_fault e is h
       decide (Some f) is h = absurd (true≢false (sym h))
 
   still_why : (a b : List (ℕ × Frame)) (d : ℕ) → SameDirty a b → ((f : Frame) → frame_at b d ≡ Some f → f.dirty ≡ true → ⊥) → (f : Frame) → frame_at a d ≡ Some f → f.dirty ≡ true → ⊥
-  still_why a b d same no f is dirty = no f ((same.at d f dirty).1 is) dirty
+  still_why a b d same none f is dirty = none f ((same.at d f dirty).1 is) dirty
 
   pub still_why_not : (a b : List (ℕ × Frame)) (ds : List ℕ) (e : PageFault) → SameDirty a b → WhyNotFetched sh pages b ds e → WhyNotFetched sh pages a ds e
   still_why_not a b ds DeviceFault same h = tt

@@ -62,6 +62,7 @@ frames_made r lsn first held (d ∷ ds) sh h = have_append (one_made r lsn d p) 
   where
     p : Page
     p = over_in first (framed held d) d
+
     one : (t : Bool) → HaveFrames (cond t (record { dba = d; page = changed_page r lsn p } ∷ []) []) held
     one true = (h.1, tt)
     one false = tt
@@ -90,17 +91,22 @@ over_made r lsn d first held (x ∷ ds) p =
   where
     q : Page
     q = over_in first (framed held x) x
+
     here : Page
     here = over_in first (framed held d) d
+
     new : Page
     new = changed_page r lsn here
+
     fold : (a t : Bool) → cond (a && t) new (cond t new p) ≡ cond t new p
     fold true true = refl
     fold true false = refl
     fold false t = refl
+
     lesser : (t : Bool) → over_in (cond t (record { dba = d; page = new } ∷ []) []) p d ≡ cond t new p
     lesser true = rw (eq-eqb d d refl) refl
     lesser false = refl
+
     decide : (t : Bool) → nat_eq x d ≡ t
         → cond (is_among ds d && nat_lt (lsn_of here) lsn) new (over_in (one_made r lsn x q) p d) ≡ cond ((t || is_among ds d) && nat_lt (lsn_of here) lsn) new p
     decide true e =
@@ -163,8 +169,10 @@ redone_two sh r s lsn held d bytes p all more h =
   where
     one : List NewPage
     one = made r lsn [] held (touched_once sh r)
+
     q : Page
     q = over_in one p d
+
     decide : (t : Bool) → is_among (touched_once sh s) d ≡ t
         → cond (t && nat_lt (lsn_of (over_in one (framed held d) d)) (lsn + 1)) (changed_page s (lsn + 1) (over_in one (framed held d) d)) q ≡ cond (t && nat_lt (lsn_of q) (lsn + 1)) (changed_page s (lsn + 1) q) q
     decide true e =
@@ -194,7 +202,7 @@ redone_next : (sh : Shape) (R : List Record) (r : Record) (lsn d : ℕ) → lsn 
 redone_next sh R r lsn d e =
     ap (λ (n : ℕ). redone sh r n d (page_of sh R d)) e
     ∙ and_true (is_among (touched sh r) d) (nat_lt (lsn_of (page_of sh R d)) (suc (length R))) (changed_page r (suc (length R)) (page_of sh R d)) (page_of sh R d)
-      (lt-ltb (lsn_of (page_of sh R d)) (suc (length R)) (omega (arith, (lsns_tell sh R d).most)))
+    (lt-ltb (lsn_of (page_of sh R d)) (suc (length R)) (omega (arith, (lsns_tell sh R d).most)))
 
 pub fresh : (sh : Shape) (R : List Record) (r : Record) (s : Option Record) (lsn : ℕ) (new : List NewPage) → lsn ≡ suc (length R) → LeadsTo sh (page_of sh R) (redone_all sh r s lsn (page_of sh R)) new → Leads sh R (with_records r s R) new
 fresh sh R r None lsn new e l = λ d has. l d has ∙ redone_next sh R r lsn d e
@@ -223,6 +231,7 @@ module _ (sh : Shape) (pages : ℕ → List ℕ) (image : ℕ → Page) (old new
       clean f false e is =
           let shown : IsShown d (Some f) (pages d) (image d) = subst (λ (o : Option Frame). IsShown d o (pages d) (image d)) is (s.at d has) in
           is_spelled d (pages d) (image d) (shown.1 e)
+
       decide : (o : Option Frame) → frame_at new d ≡ o → IsSome o → IsSpelled d (pages d)
       decide None is h = cc
       decide (Some f) is h = clean f f.dirty refl is
@@ -235,6 +244,7 @@ module _ (sh : Shape) (pages : ℕ → List ℕ) (image : ℕ → Page) (old new
       clean f false e is =
           let shown : IsShown b (Some f) (pages b) (image b) = subst (λ (o : Option Frame). IsShown b o (pages b) (image b)) is (shows.at b ready.has) in
           why.2 ready.has (is_spelled b (pages b) (image b) (shown.1 e))
+
       decide : (o : Option Frame) → frame_at old b ≡ o → ⊥
       decide None is = why.2 ready.has (ready.spelled is)
       decide (Some f) is = clean f f.dirty refl is
@@ -247,9 +257,10 @@ module _ (sh : Shape) (pages : ℕ → List ℕ) (image : ℕ → Page) (old new
 
   pub not_fetched_two : (r s : Record) (lsn : ℕ) (e : PageFault) → Shows sh pages image old → WhyNotFetched sh pages old (touched_once sh r ++ touched_once sh s) e → IsPreparing sh r (Some s) lsn pages old image (Err e)
   not_fetched_two r s lsn DeviceFault shows why = tt
-  not_fetched_two r s lsn (BadPage b) shows why =
-      (sym (ap (λ (x : Bool). x || is_among (touched_once sh s) b) ((are_listed sh r).0 b) ∙ ap (λ (x : Bool). is_among (touched sh r) b || x) ((are_listed sh s).0 b)) ∙ sym (among_append (touched_once sh r) (touched_once sh s) b) ∙ why.0
-      , not_ready r (Some s) lsn b (touched_once sh r ++ touched_once sh s) shows why)
+  not_fetched_two r s lsn (BadPage b) shows why = (
+    sym (ap (λ (x : Bool). x || is_among (touched_once sh s) b) ((are_listed sh r).0 b) ∙ ap (λ (x : Bool). is_among (touched sh r) b || x) ((are_listed sh s).0 b)) ∙ sym (among_append (touched_once sh r) (touched_once sh s) b) ∙ why.0,
+    not_ready r (Some s) lsn b (touched_once sh r ++ touched_once sh s) shows why,
+  )
   not_fetched_two r s lsn NoMemory shows why = tt
 
   page_now : (d : ℕ) → Shows sh pages image new → has_page sh d ≡ true → IsSome (frame_at new d) → framed new d ≡ image d
@@ -302,7 +313,7 @@ module _ (sh : Shape) (pages : ℕ → List ℕ) (image : ℕ → Page) (old new
         spelled = spelled_before d same s there.0 there.1;
         fit = (
           λ y. subst (FitsOn r lsn) (page_now d s there.0 there.1) (fit_at r lsn [] new (touched_once sh r) d fit ((are_listed sh r).0 d ∙ y)),
-          λ y. subst (FitsOn t (lsn + 1)) (after_first there.0 there.1) (fit_at t (lsn + 1) (made r lsn [] new (touched_once sh r)) new (touched_once sh t) d fit2 ((are_listed sh t).0 d ∙ y))
+          λ y. subst (FitsOn t (lsn + 1)) (after_first there.0 there.1) (fit_at t (lsn + 1) (made r lsn [] new (touched_once sh r)) new (touched_once sh t) d fit2 ((are_listed sh t).0 d ∙ y)),
         );
       }
     where
@@ -311,6 +322,7 @@ module _ (sh : Shape) (pages : ℕ → List ℕ) (image : ℕ → Page) (old new
         | inl y ↦ are_framed sh (touched_once sh r) new d all ((are_listed sh r).0 d ∙ y)
         | inr n ↦ are_framed sh (touched_once sh t) new d more ((are_listed sh t).0 d ∙ sym (ap (λ (b : Bool). b || is_among (touched sh t) d) n) ∙ touches)
       ]
+
       after_first : has_page sh d ≡ true → IsSome (frame_at new d) → over_in (made r lsn [] new (touched_once sh r)) (framed new d) d ≡ redone sh r lsn d (image d)
       after_first has some =
           ap (λ (p : Page). over_in (made r lsn [] new (touched_once sh r)) p d) (page_now d s has some) ∙ redone_one sh r lsn new d (pages d) (image d) all (s.at d has)

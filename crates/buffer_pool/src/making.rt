@@ -98,6 +98,14 @@ pub(crate) fn made_one(
     }
 }
 
+/// The blocks that two records touch: those of each, each once, and all.
+#[derive(Drop)]
+pub(crate) struct BlocksOfTwo {
+    pub(crate) first: Vec<Dba>,
+    pub(crate) second: Vec<Dba>,
+    pub(crate) all: Vec<Dba>,
+}
+
 /// What two records make of the pages of their blocks, the second of those that the first leaves.
 pub(crate) fn made_two(
     alloc: Global,
@@ -105,22 +113,29 @@ pub(crate) fn made_two(
     first: &Record,
     second: &Record,
     lsn: Lsn,
-    blocks: &[Dba],
-    more_blocks: &[Dba],
+    blocks: &BlocksOfTwo,
 ) -> Result<Changed, PageFault>
     requires number { lsn < 2 ^ 64 - 1 }
-    requires frames { AreFramed pool.now.shape blocks.now pool.now.held × AreFramed pool.now.shape more_blocks.now pool.now.held }
-    ensures done { IfOk result (λ changed. changed ≡ made_by_two first.now second.now lsn pool.now.held blocks.now more_blocks.now) }
-    ensures fit { OnOk result (AllFit first.now lsn [] pool.now.held blocks.now × AllFit second.now (lsn + 1) (made first.now lsn [] pool.now.held blocks.now) pool.now.held more_blocks.now) }
-    ensures why { IfErr result (WhyNotMadeByTwo first.now second.now lsn pool.now.held blocks.now more_blocks.now) }
+    requires frames { AreFramed pool.now.shape blocks.now.first.items pool.now.held × AreFramed pool.now.shape blocks.now.second.items pool.now.held }
+    ensures done { IfOk result (λ changed. changed ≡ made_by_two first.now second.now lsn pool.now.held blocks.now.first.items blocks.now.second.items) }
+    ensures fit { OnOk result (AllFit first.now lsn [] pool.now.held blocks.now.first.items × AllFit second.now (lsn + 1) (made first.now lsn [] pool.now.held blocks.now.first.items) pool.now.held blocks.now.second.items) }
+    ensures why { IfErr result (WhyNotMadeByTwo first.now second.now lsn pool.now.held blocks.now.first.items blocks.now.second.items) }
 {
     let mut pages = Vec::new(alloc);
-    match make(alloc, pool, &[], first, lsn, blocks, &mut pages) {
+    match make(alloc, pool, &[], first, lsn, &blocks.first, &mut pages) {
         Ok(()) => {}
         Err(fault) => return Err(fault),
     }
     let mut more = Vec::new(alloc);
-    match make(alloc, pool, &pages, second, Lsn(lsn.0 + 1), more_blocks, &mut more) {
+    match make(
+        alloc,
+        pool,
+        &pages,
+        second,
+        Lsn(lsn.0 + 1),
+        &blocks.second,
+        &mut more,
+    ) {
         Ok(()) => {}
         Err(fault) => return Err(fault),
     }
@@ -141,11 +156,45 @@ pub(crate) fn touched(alloc: Global, rec: &Record, shape: &Shape) -> Result<Vec<
     }
 }
 
-/// Some blocks and more behind them.
-pub(crate) fn joined(alloc: Global, blocks: &[Dba], more: &[Dba]) -> Result<Vec<Dba>, NoMemory>
+// Some blocks and more behind them.
+fn joined(alloc: Global, blocks: &[Dba], more: &[Dba]) -> Result<Vec<Dba>, NoMemory>
     ensures { IfOk result (λ all. all.items ≡ blocks.now ++ more.now) }
 {
     let mut all = Vec::from_slice(alloc, blocks)?;
     all.extend_from_slice(more)?;
     Ok(all)
+}
+
+fn listed(
+    alloc: Global,
+    first: &Record,
+    second: &Record,
+    shape: &Shape,
+) -> Result<BlocksOfTwo, NoMemory>
+    ensures first { IfOk result (λ blocks. blocks.first.items ≡ touched_once shape.now first.now) }
+    ensures second { IfOk result (λ blocks. blocks.second.items ≡ touched_once shape.now second.now) }
+    ensures all { IfOk result (λ blocks. blocks.all.items ≡ blocks.first.items ++ blocks.second.items) }
+{
+    let first = touches(alloc, first, shape)?;
+    let second = touches(alloc, second, shape)?;
+    let all = joined(alloc, &first, &second)?;
+    Ok(BlocksOfTwo { first, second, all })
+}
+
+/// The blocks that two records touch.
+pub(crate) fn touched_two(
+    alloc: Global,
+    first: &Record,
+    second: &Record,
+    shape: &Shape,
+) -> Result<BlocksOfTwo, PageFault>
+    ensures first { IfOk result (λ blocks. blocks.first.items ≡ touched_once shape.now first.now) }
+    ensures second { IfOk result (λ blocks. blocks.second.items ≡ touched_once shape.now second.now) }
+    ensures all { IfOk result (λ blocks. blocks.all.items ≡ blocks.first.items ++ blocks.second.items) }
+    ensures only { IfErr result (λ e. e ≡ PageFault.NoMemory) }
+{
+    match listed(alloc, first, second, shape) {
+        Ok(blocks) => Ok(blocks),
+        Err(NoMemory) => Err(PageFault::NoMemory),
+    }
 }

@@ -127,6 +127,7 @@ impl BufferPool {
         ensures length { length self.old.held ≤ FRAMES → length self.new.held ≤ length self.old.held + 1 }
         ensures cause { Causes D.meaning disk.old disk.new (IsErrOf result PageFault.DeviceFault) }
     {
+        let _first = &self.first;
         let block = dba.0;
         if block == TXN_TABLE_BLOCK {
             return Ok(());

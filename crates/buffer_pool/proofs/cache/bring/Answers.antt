@@ -1,6 +1,9 @@
-use Rattle.std.proofs.Common.{arith, sym, ◌∙◌}
+use Rattle.std.proofs.Common.{◌≡◌, arith, sym, ◌∙◌}
 use Rattle.std.proofs.lemmas.Grind.{common_steps}
-use Rattle.buffer_pool.specs.Frames.{frame_at, IsSpelled}
+use Rattle.page_store.specs.Types.{block}
+use Rattle.page_set.specs.declared.page.Page.{Page}
+use Rattle.page_set.specs.Spelled.{meaning_of}
+use Rattle.buffer_pool.specs.Frames.{frame_at, in_file, IsSpelled}
 use Rattle.buffer_pool.specs.Reading.{IsSpelledIn}
 use Rattle.buffer_pool.proofs.Drops.{keeps_then, keeps_same, dirty_then, dirty_same, frames_then, frames_same}
 use Rattle.buffer_pool.proofs.Fetches.{is_none, fetched_hit, fetched_read, fetched_err, fetched_memory, written, only_added, only_same}
@@ -28,10 +31,10 @@ pub returns-then-promote-clause-stays : goal.returns-then-promote-clause-stays
 returns-then-promote-clause-stays g c = λ room. frames_same c.args.frames.now.entries c.promote.new.frames.entries c.promote.ensures.same
 
 pub returns-in-Err-clause-page : goal.returns-in-Err-clause-page
-returns-in-Err-clause-page g c = λ pages s. fetched_err c.args.store.now c.args.block (IsSpelled c.args.block (pages c.args.block)) (frame_at c.args.frames.now.entries c.args.block) _ c.in-Err.fault (sym c.promote.ensures.value ∙ c.if-promote.false) (c.in-Err.ensures.page pages s)
+returns-in-Err-clause-page g c = λ pages s. fetched_err c.args.store.now c.args.block (IsSpelled c.args.block (pages c.args.block)) (frame_at c.args.frames.now.entries c.args.block) (λ (p : Page). p ≡ in_file pages c.args.block) c.in-Err.fault (sym c.promote.ensures.value ∙ c.if-promote.false) (c.in-Err.ensures.page pages s)
 
 pub returns-in-Err-clause-found : goal.returns-in-Err-clause-found
-returns-in-Err-clause-found g c = λ told. fetched_err c.args.store.now c.args.block (IsSpelledIn c.args.block (g.D.Disk.meaning.files c.args.disk.now).data_bytes) (frame_at c.args.frames.now.entries c.args.block) _ c.in-Err.fault (sym c.promote.ensures.value ∙ c.if-promote.false) (c.in-Err.ensures.found told)
+returns-in-Err-clause-found g c = λ told. fetched_err c.args.store.now c.args.block (IsSpelledIn c.args.block (g.D.Disk.meaning.files c.args.disk.now).data_bytes) (frame_at c.args.frames.now.entries c.args.block) (λ (p : Page). p ≡ meaning_of c.args.block (block c.args.block (g.D.Disk.meaning.files c.args.disk.now).data_bytes)) c.in-Err.fault (sym c.promote.ensures.value ∙ c.if-promote.false) (c.in-Err.ensures.found told)
 
 pub returns-in-Err-clause-keeps : goal.returns-in-Err-clause-keeps
 returns-in-Err-clause-keeps g c = λ pages s. keeps_same pages c.args.frames.now.entries c.promote.new.frames.entries c.promote.ensures.same
@@ -49,10 +52,10 @@ pub take_in-requires-clause-absent : goal.take_in-requires-clause-absent
 take_in-requires-clause-absent g c = is_none _ (rw (c.promote.ensures.same c.args.block) (sym c.promote.ensures.value ∙ c.if-promote.false))
 
 pub returns-in-Ok-take_in-clause-page : goal.returns-in-Ok-take_in-clause-page
-returns-in-Ok-take_in-clause-page g c = λ pages s. fetched_read c.args.store.now c.args.block (IsSpelled c.args.block (pages c.args.block)) (frame_at c.args.frames.now.entries c.args.block) _ c.in-Ok.page (sym c.promote.ensures.value ∙ c.if-promote.false) (c.in-Ok.ensures.page pages s)
+returns-in-Ok-take_in-clause-page g c = λ pages s. fetched_read c.args.store.now c.args.block (IsSpelled c.args.block (pages c.args.block)) (frame_at c.args.frames.now.entries c.args.block) (λ (p : Page). p ≡ in_file pages c.args.block) c.in-Ok.page (sym c.promote.ensures.value ∙ c.if-promote.false) (c.in-Ok.ensures.page pages s)
 
 pub returns-in-Ok-take_in-clause-found : goal.returns-in-Ok-take_in-clause-found
-returns-in-Ok-take_in-clause-found g c = λ told. fetched_read c.args.store.now c.args.block (IsSpelledIn c.args.block (g.D.Disk.meaning.files c.args.disk.now).data_bytes) (frame_at c.args.frames.now.entries c.args.block) _ c.in-Ok.page (sym c.promote.ensures.value ∙ c.if-promote.false) (c.in-Ok.ensures.found told)
+returns-in-Ok-take_in-clause-found g c = λ told. fetched_read c.args.store.now c.args.block (IsSpelledIn c.args.block (g.D.Disk.meaning.files c.args.disk.now).data_bytes) (frame_at c.args.frames.now.entries c.args.block) (λ (p : Page). p ≡ meaning_of c.args.block (block c.args.block (g.D.Disk.meaning.files c.args.disk.now).data_bytes)) c.in-Ok.page (sym c.promote.ensures.value ∙ c.if-promote.false) (c.in-Ok.ensures.found told)
 
 pub returns-in-Ok-take_in-clause-keeps : goal.returns-in-Ok-take_in-clause-keeps
 returns-in-Ok-take_in-clause-keeps g c = λ pages s.

@@ -11,10 +11,12 @@ use Rattle.buffer_pool.proofs.pool.BufferPool.fetch.Goals as goal
 
 pub invariant_of-self : goal.invariant_of-self
 invariant_of-self g c =
-    let sh = c.self.inside.store in let f = c.self.inside.first in let a = c.self.inside.frames.entries in let b = c.bring.new.frames.entries in
-    (grind (arith, common_steps, c.bring.ensures.dirty, c.self.invariant.0), c.bring.ensures.cap ∙ c.self.invariant.1,
+    let sh = c.self.inside.store in let f = c.self.inside.first in let a = c.self.inside.frames.entries in let b = c.bring.new.frames.entries in (
+      grind (arith, common_steps, c.bring.ensures.dirty, c.self.invariant.0),
+      c.bring.ensures.cap ∙ c.self.invariant.1,
       still_apart sh c.dba.inside.0 TXN_TABLE_BLOCK a b c.bring.ensures.only c.self.invariant.2 c.if-block-eq-TXN_TABLE_BLOCK.false,
-      rw c.bring.ensures.same (still_pages sh c.dba.inside.0 TXN_TABLE_BLOCK f a b c.bring.ensures.only c.self.invariant.3))
+      rw c.bring.ensures.same (still_pages sh c.dba.inside.0 TXN_TABLE_BLOCK f a b c.bring.ensures.only c.self.invariant.3),
+    )
 
 pub returns-clause-looks : goal.returns-clause-looks
 returns-clause-looks g c =
@@ -34,7 +36,7 @@ returns-clause-page g c = λ pages s.
     let s2 = rw (← c.self.view_is) at s in
     let other = unequal d TXN_TABLE_BLOCK (λ e. c.if-block-eq-TXN_TABLE_BLOCK.false (c.dba.view_is ∙ e)) in
     rw (← c.self.view_is) (fetched_behind sh d (IsSpelled d (pages d)) TXN_TABLE_BLOCK c.self.inside.first a c.bring.result other
-      (subst (λ (j : ℕ). IsFetching sh j (IsSpelled j (pages j)) (frame_at a j) c.bring.result) c.dba.view_is (c.bring.ensures.page pages s2)))
+    (subst (λ (j : ℕ). IsFetching sh j (IsSpelled j (pages j)) (frame_at a j) c.bring.result) c.dba.view_is (c.bring.ensures.page pages s2)))
 
 pub returns-clause-found : goal.returns-clause-found
 returns-clause-found g c = λ told.
@@ -42,7 +44,7 @@ returns-clause-found g c = λ told.
     let file = (g.D.Disk.meaning.files c.args.disk.now).data_bytes in
     let other = unequal d TXN_TABLE_BLOCK (λ e. c.if-block-eq-TXN_TABLE_BLOCK.false (c.dba.view_is ∙ e)) in
     rw (← c.self.view_is) (fetched_behind sh d (IsSpelledIn d file) TXN_TABLE_BLOCK c.self.inside.first a c.bring.result other
-      (subst (λ (j : ℕ). IsFetching sh j (IsSpelledIn j file) (frame_at a j) c.bring.result) c.dba.view_is (c.bring.ensures.found told)))
+    (subst (λ (j : ℕ). IsFetching sh j (IsSpelledIn j file) (frame_at a j) c.bring.result) c.dba.view_is (c.bring.ensures.found told)))
 
 pub returns-clause-stays : goal.returns-clause-stays
 returns-clause-stays g c = λ room.

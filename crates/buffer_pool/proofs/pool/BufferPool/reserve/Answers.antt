@@ -7,9 +7,12 @@ use Rattle.buffer_pool.proofs.pool.BufferPool.reserve.Goals as goal
 
 pub invariant_of-self : goal.invariant_of-self
 invariant_of-self c =
-    let a = c.self.inside.frames.entries in let b = c.make_room.new.frames.entries in
-    (grind (arith, common_steps, c.make_room.ensures.dirty, c.self.invariant.0), c.make_room.ensures.cap ∙ c.self.invariant.1, c.make_room.ensures.absent TXN_TABLE_BLOCK c.self.invariant.2,
-      pages_dropped c.self.inside.store TXN_TABLE_BLOCK c.self.inside.first a b c.make_room.ensures.absent c.self.invariant.3)
+    let a = c.self.inside.frames.entries in let b = c.make_room.new.frames.entries in (
+      grind (arith, common_steps, c.make_room.ensures.dirty, c.self.invariant.0),
+      c.make_room.ensures.cap ∙ c.self.invariant.1,
+      c.make_room.ensures.absent TXN_TABLE_BLOCK c.self.invariant.2,
+      pages_dropped c.self.inside.store TXN_TABLE_BLOCK c.self.inside.first a b c.make_room.ensures.absent c.self.invariant.3,
+    )
 
 pub returns-clause-keeps : goal.returns-clause-keeps
 returns-clause-keeps c = λ pages. rw (← c.self.view_is) (keeps_behind pages TXN_TABLE_BLOCK c.self.inside.first c.self.inside.frames.entries c.make_room.new.frames.entries (c.make_room.ensures.keeps pages))

@@ -1,0 +1,3 @@
+pub mod Nexting
+pub mod Going
+pub mod Loops

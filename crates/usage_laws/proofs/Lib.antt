@@ -5,4 +5,5 @@ pub mod ClassLaw
 pub mod SettledLaw
 pub mod StaysLaw
 pub mod ToldLaw
+pub mod BestsLaw
 pub mod Computing

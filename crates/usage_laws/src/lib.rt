@@ -2,6 +2,7 @@
 //! they are allowed, and after them the block needs nothing. Each is the contract of a function that does nothing.
 #![tactic(auto)]
 
+ghost use Rattle.usage_laws.specs.Bests.{ClassesAreTold};
 ghost use Rattle.usage_laws.specs.Settling.{CleansAreAllowed, CleansAreOne, ClassesAreAllowed, SettledIsLawful, CallsAreMeant, SettledNeedsNothing, SettledStays, SettledBlocks, SettledAddsWhat, SettledAgain};
 ghost use Rattle.usage_laws.specs.Told.{SettlingsAreTold};
 ghost use Rattle.usage_laws.specs.Worked.{SettledRight};
@@ -61,6 +62,12 @@ pub fn settled_again()
 /// of the block and in the transaction table.
 pub fn settlings_are_told()
     ensures { SettlingsAreTold }
+{}
+
+/// The kept class of a row block, by which a Class is called for, and the bests that the Class states are found in the first and the
+/// second level of its extent.
+pub fn classes_are_told()
+    ensures { ClassesAreTold }
 {}
 
 /// The definitions on two small runs.

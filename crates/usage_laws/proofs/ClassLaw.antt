@@ -2,11 +2,11 @@
 use Rattle.std.proofs.Common.{◌≡◌, ℕ, zero, suc, ◌≤◌, ◌*◌, ◌/◌, max, true, false, cond, eqb, ltb, List, [], ◌∷◌, Option, Some, None, refl, ◌∙◌, ap, ap₂, arith}
 use Rattle.seg_words.proofs.Lemmas.{not-true}
 use Rattle.seg_words.specs.Types.{Class as BlockClass, Full, Shape, class_code, class_of, of_quarters, BLOCK_ROOM}
-use Rattle.redo_model.specs.Records.{Record, Class, Clean, CleanRecord}
-use Rattle.redo_model.specs.Model.{Extent, extents_of, extent_data, extent_at, index_of, group_start, IsTable, IsRowBlock, pctfree_of, free_of, kept_class, code_of, good_code, best_of, best_in_group, best_in_l2, best_of_found, best_in_l1, StatesBests, ClassAllowed}
+use Rattle.redo_model.specs.Records.{Record, Class, Clean, CleanRecord, ClassRecord}
+use Rattle.redo_model.specs.Model.{Extent, extents_of, extent_data, extent_at, index_of, group_start, l2_of, l3_of, is_formatted, IsTable, IsRowBlock, pctfree_of, free_of, kept_class, code_of, good_code, best_of, best_in_group, best_in_l2, best_of_found, best_in_l1, StatesBests, ClassAllowed}
 use Rattle.end_laws.proofs.Allowed.{called}
 use Rattle.usage_laws.specs.Drafts.{ruled_class, class_with, reclassed, class_to, drafted_class, calls_for_class}
-use Rattle.usage_laws.specs.Settling.{ClassesAreAllowed}
+use Rattle.usage_laws.specs.Settling.{ClassesAreAllowed, ClassesAreOne}
 
 -- lists with the same codes have the same bests
 
@@ -59,6 +59,29 @@ class_allowed sh R o b t here h = record {
 
 pub classes_are_allowed : ClassesAreAllowed
 classes_are_allowed sh R o b h t here y = record { allowed = (h.allowed, record { called_for = called R _ h.whole; kind = class_allowed sh R o b t here y }); whole = refl }
+
+-- records with the same fields
+
+fields_same : (o b : ℕ) (c d : BlockClass) (l2 m2 l3 m3 i j v w x y : ℕ) → c ≡ d → l2 ≡ m2 → l3 ≡ m3 → i ≡ j → v ≡ w → x ≡ y
+    → ◌≡◌ {A = ClassRecord} (record { obj = o; dba = b; class = c; l2 = l2; l3 = l3; index = i; best_of_l1 = v; best_of_l2 = x }) (record { obj = o; dba = b; class = d; l2 = m2; l3 = m3; index = j; best_of_l1 = w; best_of_l2 = y })
+fields_same o b c d l2 m2 l3 m3 i j v w x y p q r s t u =
+    ap₂ (λ (e : BlockClass) (n : ℕ). record { obj = o; dba = b; class = e; l2 = n; l3 = l3; index = i; best_of_l1 = v; best_of_l2 = x }) p q
+    ∙ ap₂ (λ (n m : ℕ). record { obj = o; dba = b; class = d; l2 = m2; l3 = n; index = m; best_of_l1 = v; best_of_l2 = x }) r s
+    ∙ ap₂ (λ (n m : ℕ). record { obj = o; dba = b; class = d; l2 = m2; l3 = m3; index = j; best_of_l1 = n; best_of_l2 = m }) t u
+
+pub classes_are_one : ClassesAreOne
+classes_are_one sh R k a e =
+    let o : ℕ = k.obj in
+    let b : ℕ = k.dba in
+    let i : ℕ = index_of sh (extents_of R o) b in
+    let S : List Record = Class k ∷ R in
+    let T : List Record = reclassed sh R o b (ruled_class R o b) in
+    let is : k.index ≡ i = a.bitmaps.index_is in
+    let codes : (d : ℕ) → code_of sh S d ≡ code_of sh T d = λ d. ap (λ c. cond (is_formatted sh R d) (class_code (cond (eqb b d) c (kept_class R d))) 0) e in
+    let l1 : k.best_of_l1 ≡ best_in_l1 sh T o i = a.bests.l1 ∙ ap (best_in_l1 sh S o) is ∙ same_l1 sh S T o i refl codes in
+    let l2 : k.best_of_l2 ≡ best_in_l2 sh T o (group_start i) = a.bests.l2 ∙ ap (λ n. best_in_l2 sh S o (group_start n)) is ∙ same_l2 sh S T o (group_start i) refl codes in
+    fields_same o b k.class (ruled_class R o b) k.l2 (l2_of sh (extents_of R o) i) k.l3 (l3_of sh (extents_of R o)) k.index i k.best_of_l1 (best_in_l1 sh T o i) k.best_of_l2 (best_in_l2 sh T o (group_start i)) e
+    (a.bitmaps.l2_is ∙ ap (l2_of sh (extents_of R o)) is) a.bitmaps.l3_is is l1 l2
 
 -- a Clean before it changes nothing that the Class states
 pub class_after_clean : (sh : Shape) (R : List Record) (c : CleanRecord) (o b : ℕ) → ruled_class (Clean c ∷ R) o b ≡ ruled_class R o b → drafted_class sh (Clean c ∷ R) o b ≡ drafted_class sh R o b

@@ -1,8 +1,8 @@
 -- What the records of a settling must be, and what they leave.
 use Rattle.std.specs.Prelude.{◌≡◌, ℕ, ◌≤◌, true, false, List, ◌∷◌, Some}
 use Rattle.seg_words.specs.Types.{Shape, By}
-use Rattle.redo_model.specs.Records.{Record, Class, Clean, CleanRecord}
-use Rattle.redo_model.specs.Model.{commit_count, txn_count, row_count, is_active, commit_number, is_forgotten, standing, table_at, view, extents_of, high_mark, low_mark, is_formatted, IsTable, IsRowBlock, pctfree_of, block_of, used_of, image, entry, kept_class, CleanAllowed, AreAllowed, IsLawful}
+use Rattle.redo_model.specs.Records.{Record, Class, Clean, CleanRecord, ClassRecord}
+use Rattle.redo_model.specs.Model.{commit_count, txn_count, row_count, is_active, commit_number, is_forgotten, standing, table_at, view, extents_of, high_mark, low_mark, is_formatted, IsTable, IsRowBlock, pctfree_of, block_of, used_of, image, entry, kept_class, CleanAllowed, ClassAllowed, AreAllowed, IsLawful}
 use Rattle.usage_laws.specs.Drafts.{drafted_clean, calls_for_clean, ruled_class, drafted_class, calls_for_class, settled, NeedsNothing}
 
 -- ---- allowed
@@ -16,6 +16,10 @@ CleansAreOne = (sh : Shape) (R : List Record) (c : CleanRecord) → AreAllowed s
 
 abbrev pub ClassesAreAllowed : Type 0
 ClassesAreAllowed = (sh : Shape) (R : List Record) (o b : ℕ) → IsLawful sh R → IsTable R o → IsRowBlock sh R o b → calls_for_class R o b ≡ true → IsLawful sh (Class (drafted_class sh R o b) ∷ R)
+
+-- no other Class that gives the block its class is
+abbrev pub ClassesAreOne : Type 0
+ClassesAreOne = (sh : Shape) (R : List Record) (k : ClassRecord) → ClassAllowed sh R k → k.class ≡ ruled_class R k.obj k.dba → k ≡ drafted_class sh R k.obj k.dba
 
 abbrev pub SettledIsLawful : Type 0
 SettledIsLawful = (sh : Shape) (R : List Record) (o b : ℕ) → IsLawful sh R → IsTable R o → IsRowBlock sh R o b → IsLawful sh (settled sh R o b)

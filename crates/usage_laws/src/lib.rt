@@ -3,7 +3,7 @@
 #![tactic(auto)]
 
 ghost use Rattle.usage_laws.specs.Bests.{ClassesAreTold};
-ghost use Rattle.usage_laws.specs.Settling.{CleansAreAllowed, CleansAreOne, ClassesAreAllowed, SettledIsLawful, CallsAreMeant, SettledNeedsNothing, SettledStays, SettledBlocks, SettledAddsWhat, SettledAgain};
+ghost use Rattle.usage_laws.specs.Settling.{CleansAreAllowed, CleansAreOne, ClassesAreAllowed, ClassesAreOne, SettledIsLawful, CallsAreMeant, SettledNeedsNothing, SettledStays, SettledBlocks, SettledAddsWhat, SettledAgain};
 ghost use Rattle.usage_laws.specs.Told.{SettlingsAreTold};
 ghost use Rattle.usage_laws.specs.Worked.{SettledRight};
 
@@ -20,6 +20,11 @@ pub fn cleans_are_one()
 /// The Class that gives a row block the class of its free bytes is allowed where its kept class is another one.
 pub fn classes_are_allowed()
     ensures { ClassesAreAllowed }
+{}
+
+/// It is the only one of this class that is.
+pub fn classes_are_one()
+    ensures { ClassesAreOne }
 {}
 
 /// A Clean is called for exactly where a slot names a committed transaction that isn't forgotten, and a Class exactly where the

@@ -8,3 +8,4 @@ pub mod Starts
 pub mod RefusedLaw
 pub mod Shrinks
 pub mod Telling
+pub mod Passes

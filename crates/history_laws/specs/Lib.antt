@@ -7,3 +7,4 @@ pub mod Starts
 pub mod Refusals
 pub mod Shrinks
 pub mod Telling
+pub mod Passes

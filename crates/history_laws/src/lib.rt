@@ -4,6 +4,7 @@
 
 ghost use Rattle.history_laws.specs.Keeping.{EntriesAreLegal, EntriesStay, OwnersAreOne, RecordsAreLegal, RecordsBelong, StartsAreLegal, WaysAreKnown};
 ghost use Rattle.history_laws.specs.Others.{EventsLeaveTransactions, EventsLeaveWork, RecordsLeaveWork};
+ghost use Rattle.history_laws.specs.Passes.{AcceptedPasses, FirstIsRefused, FirstPassStays};
 ghost use Rattle.history_laws.specs.Refusals.{AgainIsRefused, BusyIsRefused, EntriesPass, FoundPass, InsertsPass, MaxExtentsIsRefused, NoRowIsRefused, NoSlotIsRefused, NoSpaceIsRefused, UndoFullIsRefused, WritesPass};
 ghost use Rattle.history_laws.specs.Shrinks.{CompactsMean, LastExtentsStay, LowersMean, ShrinksStop, StaysMean};
 ghost use Rattle.history_laws.specs.Starts.{StartsEnd, StartsGoOn};
@@ -199,4 +200,19 @@ pub fn own_is_told()
 /// What another session tells leaves what is under way and the count of entries.
 pub fn others_are_told()
     ensures { OthersAreTold }
+{}
+
+/// That no first cause applies stays while the statement is under way.
+pub fn first_pass_stays()
+    ensures { FirstPassStays }
+{}
+
+/// So an accepted outcome passes over them.
+pub fn accepted_passes()
+    ensures { AcceptedPasses }
+{}
+
+/// A refusal at the first event means the first cause that applies.
+pub fn first_is_refused()
+    ensures { FirstIsRefused }
 {}

@@ -1,0 +1,106 @@
+-- What passing over the first causes gives.
+use Rattle.std.proofs.Common.{◌≡◌, ℕ, ◌≤◌, true, false, not, ◌&&◌, ltb, List, length, Some, refl, sym, ap, subst, true≢false}
+use Rattle.seg_words.proofs.Lemmas.{and_parts}
+use Rattle.seg_words.specs.Types.{Shape}
+use Rattle.redo_model.specs.Records.{Record}
+use Rattle.redo_model.specs.Model.{prefix, Extends}
+use Rattle.redo_laws.proofs.lists.Prefixes.{prefix_longer}
+use Rattle.session_laws.specs.Sessions.{own_rows, own_begins}
+use Rattle.script_text.specs.declared.statement.Statement.{Statement}
+use Rattle.script_text.specs.declared.statement.Statement.TheVariants as asked
+use Rattle.history_text.specs.declared.outcome.Outcome.{Outcome}
+use Rattle.history_text.specs.declared.outcome.Outcome.TheVariants as told
+use Rattle.history_text.specs.declared.refusal.Refusal.{Refusal}
+use Rattle.history_text.specs.declared.refusal.Refusal.TheVariants as why
+use Rattle.history_model.specs.declared.history.Kept.{Kept}
+use Rattle.history_model.specs.declared.history.Kept.TheVariants as kept
+use Rattle.history_model.specs.History.{Task}
+use Rattle.history_model.specs.Spans.{Span}
+use Rattle.history_model.specs.Order.{rank, is_first_tested, is_no_bar, is_after_starts, is_again, bars}
+use Rattle.history_model.specs.Causes.{IsTableThere, IsTooManyTables, IsMovementOff, IsTransactionOpen, IsShrunkBy, IsShrinkBusy, IsLogFull, IsNotDataBlock}
+use Rattle.history_model.specs.Passing.{FirstPass}
+use Rattle.history_model.specs.Means.{Keeps, blocks_read, PassesOver}
+use Rattle.history_model.proofs.Passing.{passes_first}
+use Rattle.history_laws.specs.Working.{now_of}
+use Rattle.history_laws.specs.Passes.{FirstPassStays, is_refused, AcceptedPasses, FirstIsRefused}
+
+-- the same statement with other records at its end
+abbrev with_end : Span → List Record → Span
+with_end x E = record { session = x.session; scripts = x.scripts; past = x.past; begun = x.begun; ended = E }
+
+there_before : (x : Span) (E : List Record) (st : Statement) → IsTableThere (with_end x E) st → IsTableThere x st
+there_before x E (asked.Table name pctfree) h = h
+there_before x E st h = absurd h
+
+many_before : (x : Span) (E : List Record) (st : Statement) → IsTooManyTables (with_end x E) st → IsTooManyTables x st
+many_before x E (asked.Table name pctfree) h = h
+many_before x E st h = absurd h
+
+movement_before : (x : Span) (E : List Record) (st : Statement) → IsMovementOff (with_end x E) st → IsMovementOff x st
+movement_before x E (asked.Shrink name compact) h = h
+movement_before x E st h = absurd h
+
+open_before : (x : Span) (E : List Record) (st : Statement) → IsTransactionOpen (with_end x E) st → IsTransactionOpen x st
+open_before x E (asked.Table name pctfree) h = h
+open_before x E (asked.Movement name on) h = h
+open_before x E (asked.Shrink name compact) h = h
+open_before x E st h = absurd h
+
+shrunk_before : (x : Span) (E : List Record) (name : List ℕ) (v : ℕ) → IsShrunkBy (with_end x E) name v → IsShrunkBy x name v
+shrunk_before x E name v h = record { other = h.other; task = h.task; under = h.under; its_name = h.its_name; compact = h.compact; statement = h.statement; obj = h.obj; its_table = h.its_table; table = h.table }
+
+busy_before : (x : Span) (E : List Record) (st : Statement) (v : ℕ) → IsShrinkBusy (with_end x E) st v → IsShrinkBusy x st v
+busy_before x E (asked.Movement name on) v h = shrunk_before x E name v h
+busy_before x E (asked.Shrink name compact) v h = shrunk_before x E name v h
+busy_before x E st v h = absurd h
+
+log_before : (x : Span) (E : List Record) (st : Statement) → IsLogFull (with_end x E) st → IsLogFull x st
+log_before x E asked.Commit h = h
+log_before x E asked.Rollback h = h
+log_before x E (asked.Scan name) h = h
+log_before x E (asked.Usage name) h = h
+log_before x E asked.Checkpoint h = h
+log_before x E st h = h
+
+block_before : (sh : Shape) (x : Span) (E : List Record) (st : Statement) (b : ℕ) → IsNotDataBlock sh (with_end x E) st b → IsNotDataBlock sh x st b
+block_before sh x E (asked.Fix name block value) b h = h
+block_before sh x E st b h = absurd h
+
+first_later : (sh : Shape) (x : Span) (E : List Record) (st : Statement) → FirstPass sh x st → FirstPass sh (with_end x E) st
+first_later sh x E st f = record {
+  table = f.table;
+  new_name = λ h. f.new_name (there_before x E st h);
+  few_tables = λ h. f.few_tables (many_before x E st h);
+  movement = λ h. f.movement (movement_before x E st h);
+  no_transaction = λ h. f.no_transaction (open_before x E st h);
+  unshrunk = λ v h. f.unshrunk v (busy_before x E st v h);
+  log = λ h. f.log (log_before x E st h);
+  data_block = λ b h. f.data_block b (block_before sh x E st b h);
+  value = f.value;
+  label = f.label;
+}
+
+pub first_pass_stays : FirstPassStays
+first_pass_stays sh scripts Q R w task st e l f =
+    subst (λ (B : List Record). FirstPass sh (span scripts w task B R) st) (sym (prefix_longer Q R task.begins e l)) (first_later sh (now_of scripts Q w task) R st f)
+  where
+    span : List (List Statement) → ℕ → Task → List Record → List Record → Span
+    span scripts w task B E = record { session = w; scripts = scripts; past = task.past; begun = B; ended = E }
+
+pub accepted_passes : AcceptedPasses
+accepted_passes sh x st (told.Refused refusal) k e f = absurd (true≢false e)
+accepted_passes sh x st _ k e f = passes_first sh x st (blocks_read k) f
+
+-- a refusal at the first event
+
+first_keeps : (y : Refusal) → is_first_tested y ≡ true → Keeps y kept.Nothing
+first_keeps (why.ObjectGone extent lowering) e = absurd (true≢false (sym e))
+first_keeps (why.TooOld a) e = absurd (true≢false (sym e))
+first_keeps (why.TooOldEntry u) e = absurd (true≢false (sym e))
+first_keeps y e = refl
+
+pub first_is_refused : FirstIsRefused
+first_is_refused sh x st y e same cause none = record {
+  means = record { keeps = first_keeps y e; cause = cause; no_row = ap (λ (R : List Record). own_rows R x.session) same; not_begun = ap (λ (R : List Record). own_begins R x.session) same };
+  passes = λ z b h. none z (and_parts (ltb (rank z) (rank y)) (not (is_no_bar z)) (and_parts (ltb (rank z) (rank y) && not (is_no_bar z)) (not (is_again y && is_after_starts z)) b).0).0 h;
+}

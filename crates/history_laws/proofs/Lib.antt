@@ -9,3 +9,4 @@ pub mod RefusedLaw
 pub mod Shrinks
 pub mod Telling
 pub mod Passes
+pub mod Answered

@@ -8,3 +8,4 @@ pub mod Refusals
 pub mod Shrinks
 pub mod Telling
 pub mod Passes
+pub mod Answered

@@ -2,6 +2,7 @@
 //! and what a scan gathers while they go on. Each is the contract of a function that does nothing.
 #![tactic(auto)]
 
+ghost use Rattle.history_laws.specs.Answered.{BusyAnswers, NeedsSeek, SpentDeletes, SpentUpdates, TakenAnswers};
 ghost use Rattle.history_laws.specs.Keeping.{EntriesAreLegal, EntriesStay, OwnersAreOne, RecordsAreLegal, RecordsBelong, StartsAreLegal, WaysAreKnown};
 ghost use Rattle.history_laws.specs.Others.{EventsLeaveTransactions, EventsLeaveWork, RecordsLeaveWork};
 ghost use Rattle.history_laws.specs.Passes.{AcceptedPasses, FirstIsRefused, FirstPassStays};
@@ -215,4 +216,29 @@ pub fn accepted_passes()
 /// A refusal at the first event means the first cause that applies.
 pub fn first_is_refused()
     ensures { FirstIsRefused }
+{}
+
+/// A row that is found busy is the cause of that refusal.
+pub fn busy_answers()
+    ensures { BusyAnswers }
+{}
+
+/// A block that must be changed and has no list entry is the cause of that one.
+pub fn taken_answers()
+    ensures { TakenAnswers }
+{}
+
+/// An update that needs another block looks for one past its own blocks.
+pub fn needs_seek()
+    ensures { NeedsSeek }
+{}
+
+/// Undo that is full for the change of an update is the cause of that refusal.
+pub fn spent_updates()
+    ensures { SpentUpdates }
+{}
+
+/// So it is for that of a delete.
+pub fn spent_deletes()
+    ensures { SpentDeletes }
 {}

@@ -1,0 +1,5 @@
+use Rattle.history_laws.proofs.Answered as laws
+use Rattle.history_laws.proofs.spent_deletes.Goals as goal
+
+pub returns : goal.returns
+returns c = laws.spent_deletes

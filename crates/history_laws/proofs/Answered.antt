@@ -1,8 +1,7 @@
 -- Answers of a change as causes.
-use Rattle.std.proofs.Common.{◌≡◌, ℕ, List, Some, refl, sym, ◌∙◌, ap, subst}
+use Rattle.std.proofs.Common.{refl, sym, ◌∙◌, ap}
 use Rattle.redo_model.specs.Model.{view, commit_count}
 use Rattle.change_laws.specs.Drafts.{Change, change_size, delete_of}
-use Rattle.change_laws.specs.Spots.{IsFull as IsUndoFull}
 use Rattle.change_laws.specs.Answers.{stand_at}
 use Rattle.history_model.specs.Spans.{own_then}
 use Rattle.history_model.proofs.Targets.{same_some}

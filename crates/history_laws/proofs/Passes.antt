@@ -1,28 +1,25 @@
 -- What passing over the first causes gives.
-use Rattle.std.proofs.Common.{◌≡◌, ℕ, ◌≤◌, true, false, not, ◌&&◌, ltb, List, length, Some, refl, sym, ap, subst, true≢false}
+use Rattle.std.proofs.Common.{◌≡◌, ℕ, true, not, ◌&&◌, ltb, List, refl, sym, ap, subst, true≢false}
 use Rattle.seg_words.proofs.Lemmas.{and_parts}
 use Rattle.seg_words.specs.Types.{Shape}
 use Rattle.redo_model.specs.Records.{Record}
-use Rattle.redo_model.specs.Model.{prefix, Extends}
 use Rattle.redo_laws.proofs.lists.Prefixes.{prefix_longer}
 use Rattle.session_laws.specs.Sessions.{own_rows, own_begins}
 use Rattle.script_text.specs.declared.statement.Statement.{Statement}
 use Rattle.script_text.specs.declared.statement.Statement.TheVariants as asked
-use Rattle.history_text.specs.declared.outcome.Outcome.{Outcome}
 use Rattle.history_text.specs.declared.outcome.Outcome.TheVariants as told
 use Rattle.history_text.specs.declared.refusal.Refusal.{Refusal}
 use Rattle.history_text.specs.declared.refusal.Refusal.TheVariants as why
-use Rattle.history_model.specs.declared.history.Kept.{Kept}
 use Rattle.history_model.specs.declared.history.Kept.TheVariants as kept
 use Rattle.history_model.specs.History.{Task}
 use Rattle.history_model.specs.Spans.{Span}
-use Rattle.history_model.specs.Order.{rank, is_first_tested, is_no_bar, is_after_starts, is_again, bars}
+use Rattle.history_model.specs.Order.{rank, is_first_tested, is_no_bar, is_after_starts, is_again}
 use Rattle.history_model.specs.Causes.{IsTableThere, IsTooManyTables, IsMovementOff, IsTransactionOpen, IsShrunkBy, IsShrinkBusy, IsLogFull, IsNotDataBlock}
 use Rattle.history_model.specs.Passing.{FirstPass}
-use Rattle.history_model.specs.Means.{Keeps, blocks_read, PassesOver}
+use Rattle.history_model.specs.Means.{Keeps, blocks_read}
 use Rattle.history_model.proofs.Passing.{passes_first}
 use Rattle.history_laws.specs.Working.{now_of}
-use Rattle.history_laws.specs.Passes.{FirstPassStays, is_refused, AcceptedPasses, FirstIsRefused}
+use Rattle.history_laws.specs.Passes.{FirstPassStays, AcceptedPasses, FirstIsRefused}
 
 -- the same statement with other records at its end
 abbrev with_end : Span → List Record → Span

@@ -1,5 +1,5 @@
 -- An accepted statement passes over the causes that are tested as it begins, where none of them applies.
-use Rattle.std.proofs.Common.{◌≡◌, ℕ, true, List, true≢false, sym}
+use Rattle.std.proofs.Common.{◌≡◌, ℕ, true, true≢false, sym}
 use Rattle.seg_words.specs.Types.{Shape}
 use Rattle.script_text.specs.declared.statement.Statement.{Statement}
 use Rattle.history_text.specs.declared.refusal.Refusal.{Refusal}

@@ -31,7 +31,7 @@ taken_at (suc n) (x ∷ xs) b (suc k) l e =
     let m = t.below in
     record { at = t.at; below = omega (arith, m) }
 
-in_at : (xs : List ℕ) (b i : ℕ) → slice_get xs i ≡ Some b → is_in b xs ≡ true
+pub in_at : (xs : List ℕ) (b i : ℕ) → slice_get xs i ≡ Some b → is_in b xs ≡ true
 in_at xs b i e = let l = slice_get_within xs i b e in in_contains xs b i l (get_or_from_slice_get xs i b b e)
 
 pub searches_end : SearchesEnd

@@ -1,0 +1,4 @@
+pub mod Having
+pub mod Positions
+pub mod Searching
+pub mod Sights

@@ -8,13 +8,14 @@ ghost use Rattle.store_core.specs.Adding.{Adds, HasTried};
 ghost use Rattle.store_core.specs.Store.{IsTrue};
 
 use crate::adding::add;
+use crate::draft_movement;
 use crate::recording::mark_record_of;
-use crate::{draft_movement, read_segment};
 use disk_model::Disk;
 use mark_laws::MarkStep;
 use redo_record::Record;
 use seg_base::Obj;
 use store_core::{Store, StoreFault};
+use store_read::read_segment;
 
 /// Turns the row movement of a table on or off, by one record. The table is there.
 pub fn movement<D: Disk>(store: &mut Store<D>, obj: Obj, on: bool) -> Result<(), StoreFault>

@@ -9,13 +9,14 @@ ghost use Rattle.store_core.specs.Causes.{HasLooked, IsSoundFault};
 ghost use Rattle.store_core.specs.Store.{IsFetched, IsTrue};
 ghost use Rattle.segment_read.specs.Segments.{IsSegment};
 
-use crate::{draft_advance, draft_extend, draft_format, read_segment};
+use crate::{draft_advance, draft_extend, draft_format};
 use disk_model::Disk;
 use mark_laws::MarkStep;
 use redo_record::{ExtendRecord, FormatBlockRecord, Record};
 use seg_base::{Dba, Obj, SPACE_BLOCK, Shape};
 use segment_read::{Segment, WrongPage};
 use store_core::{Store, StoreFault};
+use store_read::read_segment;
 
 fn told_format<D: Disk>(
     store: &Store<D>,

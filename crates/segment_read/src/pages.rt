@@ -1,6 +1,6 @@
 // What one page says.
 ghost use Rattle.std.specs.Prelude.{ℕ, ◌≡◌, ◌≤◌, ◌<◌, true, List, length, IfOk, IsOk, Some};
-ghost use Rattle.seg_words.specs.Types.{Shape as TheShape, MOST_EXTENTS};
+ghost use Rattle.seg_words.specs.Types.{Shape as TheShape, MOST_EXTENTS, MOST_PCTFREE};
 ghost use Rattle.redo_model.specs.Records.{Record};
 ghost use Rattle.redo_model.specs.Model.{IsTable, extents_of, header_of, is_whole, table_count};
 ghost use Rattle.page_fit.specs.Headers.{SaysHeader};
@@ -46,6 +46,7 @@ pub fn segment_in(page: &Page, header: Dba) -> Result<Segment, WrongPage>
     ensures says { (sh : TheShape) (R : List Record) (o : ℕ) → SaysHeader R o page.now → header ≡ header_of sh (extents_of R o) → IfOk result (IsSegment sh R o) }
     ensures right { (R : List Record) (o : ℕ) → SaysHeader R o page.now → IsOk result }
     ensures most { IfOk result (λ s. s.extents ≤ MOST_EXTENTS) }
+    ensures percent { IfOk result (λ s. s.pctfree ≤ MOST_PCTFREE) }
 {
     let Page::Header(page) = page else {
         return Err(WrongPage);

@@ -1,0 +1,47 @@
+-- The first that passes, by places in a list.
+use Rattle.std.proofs.Common.{◌≡◌, ◌⊎◌, ℕ, zero, suc, ◌<◌, ◌≤◌, Bool, true, false, not, cond, leb, leb-true, leb-false, List, [], ◌∷◌, take, find, slice_get, Option, Some, None, refl, sym, ◌∙◌, ap, subst, arith, inl, inr}
+use Rattle.seg_words.proofs.Lemmas.{cond-true, cond-false, cases_Bool}
+use Rattle.seg_words.specs.Types.{Shape}
+use Rattle.redo_model.specs.Records.{Record}
+use Rattle.redo_model.specs.Model.{is_formatted, first_unformatted}
+use Rattle.free_search.specs.Walks.{NoneWithin, IsFirstWithin}
+
+nothing_there : (p : ℕ → Bool) (bs : List ℕ) (high : ℕ) → ((k b : ℕ) → k < high → slice_get bs k ≡ Some b → p b ≡ false) → find p (take high bs) ≡ None
+nothing_there p bs zero h = refl
+nothing_there p [] (suc n) h = refl
+nothing_there p (b ∷ bs) (suc n) h = cond-false _ _ _ (h 0 b (omega arith) refl) ∙ nothing_there p bs n (λ k c l e. h (suc k) c (omega (arith, l)) e)
+
+first_there : (p : ℕ → Bool) (bs : List ℕ) (high place b : ℕ) → place < high → slice_get bs place ≡ Some b → p b ≡ true → ((k c : ℕ) → k < place → slice_get bs k ≡ Some c → p c ≡ false) → find p (take high bs) ≡ Some b
+first_there p bs zero place b l e y h = absurd (omega (arith, l))
+first_there p [] (suc n) place b l e y h = absurd (let z : ◌≡◌ {A = Option ℕ} None (Some b) = e in cc)
+first_there p (c ∷ bs) (suc n) zero b l e y h =
+    let same : c ≡ b = (let z : ◌≡◌ {A = Option ℕ} (Some c) (Some b) = e in cc) in
+    cond-true _ _ _ (ap p same ∙ y) ∙ ap (λ (x : ℕ). Some x) same
+first_there p (c ∷ bs) (suc n) (suc place) b l e y h = cond-false _ _ _ (h 0 c (omega arith) refl) ∙ first_there p bs n place b (omega (arith, l)) e y (λ k d m s. h (suc k) d (omega (arith, m)) s)
+
+-- what was passed from the start on is all there is under the high mark
+pub none_found : (p : ℕ → Bool) (bs : List ℕ) (high to : ℕ) → NoneWithin p bs high 0 to → high ≤ to → None ≡ find p (take high bs)
+none_found p bs high to n l = sym (nothing_there p bs high (λ k b m e. n k b (omega arith) (omega (arith, m, l)) m e))
+
+-- the first one from a place on, where what was passed before has none
+pub one_found : (p : ℕ → Bool) (bs : List ℕ) (high from to b : ℕ) → NoneWithin p bs high 0 from → IsFirstWithin p bs high from to b → Some b ≡ find p (take high bs)
+one_found p bs high from to b n f =
+    sym (first_there p bs high f.place b f.under f.here f.passes (λ k c l e. go k c l e (cases_Bool (leb from k))))
+  where
+    go : (k c : ℕ) → k < f.place → slice_get bs k ≡ Some c → (leb from k ≡ true) ⊎ (leb from k ≡ false) → p c ≡ false
+    go k c l e (inl y) = (let u = f.under in f.none k c (leb-true from k y) l (omega (arith, l, u)) e)
+    go k c l e (inr m) = (let u = f.under in n k c (omega arith) (leb-false from k m) (omega (arith, l, u)) e)
+
+pub none_further : (p : ℕ → Bool) (bs : List ℕ) (high from to : ℕ) → NoneWithin p bs high 0 from → NoneWithin p bs high from to → NoneWithin p bs high 0 to
+none_further p bs high from to n m k b z l u e = elim (cases_Bool (leb from k)) [ inl y ↦ m k b (leb-true from k y) l u e | inr f ↦ n k b z (leb-false from k f) u e ]
+
+pub none_passed : (p : ℕ → Bool) (bs : List ℕ) (high : ℕ) → NoneWithin p bs high 0 0
+none_passed p bs high k b z l u e = absurd (omega (arith, l))
+
+-- the first unformatted block
+pub unformatted_is : (sh : Shape) (R : List Record) (bs : List ℕ) → find (λ b. not (is_formatted sh R b)) bs ≡ first_unformatted sh R bs
+unformatted_is sh R [] = refl
+unformatted_is sh R (b ∷ bs) = elim (cases_Bool (is_formatted sh R b)) [
+  | inl y ↦ cond-false _ _ _ (ap not y) ∙ unformatted_is sh R bs ∙ sym (cond-true _ _ _ y)
+  | inr f ↦ cond-true _ _ _ (ap not f) ∙ sym (cond-false _ _ _ f)
+]

@@ -1,0 +1,4 @@
+pub mod Looks
+pub mod Codes
+pub mod Walks
+pub mod Answers

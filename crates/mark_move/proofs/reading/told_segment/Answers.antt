@@ -1,8 +1,0 @@
-use Rattle.mark_move.proofs.Truth.{header_says}
-use Rattle.mark_move.proofs.reading.told_segment.Goals as goal
-
-pub returns-clause-says : goal.returns-clause-says
-returns-clause-says g c = λ R o t i at. c.segment_in.ensures.says c.args.store.now.shape R o (header_says c.args.store.now.shape R o c.args.header c.frame.result.now t.list.within t.lawful i at (c.frame.ensures R t.list)) at
-
-pub returns-clause-right : goal.returns-clause-right
-returns-clause-right g c = λ R o t i at. c.segment_in.ensures.right R o (header_says c.args.store.now.shape R o c.args.header c.frame.result.now t.list.within t.lawful i at (c.frame.ensures R t.list))

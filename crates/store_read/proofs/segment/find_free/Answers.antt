@@ -1,0 +1,13 @@
+use Rattle.std.proofs.Common.{sym, ◌∙◌, true≢false}
+use Rattle.store_read.proofs.Truth.{space_has}
+use Rattle.store_core.proofs.Lookups.{refused_after}
+use Rattle.store_read.proofs.segment.find_free.Goals as goal
+
+pub returns-in-Err-clause-sound : goal.returns-in-Err-clause-sound
+returns-in-Err-clause-sound g c = λ R t n. c.in-Err.ensures.sound R t.list n (space_has c.args.store.now.shape t.list.within)
+
+pub returns-in-Err-told_free-clause-looked : goal.returns-in-Err-told_free-clause-looked
+returns-in-Err-told_free-clause-looked g c = refused_after g.D.Disk.meaning c.args.store.now c.fetch.new.self c.refuse-in-Err-told_free.new.self c.in-Ok.field-0 c.refuse-in-Err-told_free.result c.in-Ok.ensures.looked c.refuse-in-Err-told_free.ensures.looked
+
+pub returns-in-Err-told_free-clause-sound : goal.returns-in-Err-told_free-clause-sound
+returns-in-Err-told_free-clause-sound g c = λ R t n. absurd (true≢false (sym (c.in-Err-told_free.ensures.right R (c.in-Ok.ensures.looked.stays_true R t) (c.shape-shape.ensures ∙ sym c.in-Ok.ensures.looked.loan.shape))))

@@ -59,8 +59,8 @@ pub table_lawful : {D : Type 0} (meaning : Meaning D) (a b : Held D) (R : List R
 table_lawful meaning a b R name percent x d same t m free says =
     let k = (tables_are_made a.shape R t.list.within t.lawful).made name percent x m free in
     subst (λ (sh : Shape). IsLawful sh (d.first ∷ d.table ∷ R)) (sym same)
-      (subst (λ (r : Record). IsLawful a.shape (r ∷ d.table ∷ R)) (sym says.first)
-        (subst (λ (r : Record). IsLawful a.shape (Extend (drafted_first a.shape R x) ∷ r ∷ R)) (sym says.table) k.lawful))
+    (subst (λ (r : Record). IsLawful a.shape (r ∷ d.table ∷ R)) (sym says.first)
+    (subst (λ (r : Record). IsLawful a.shape (Extend (drafted_first a.shape R x) ∷ r ∷ R)) (sym says.table) k.lawful))
 
 pub table_calls : (sh : Shape) (R : List Record) (name : List ℕ) (percent x : ℕ) (d : Drafted) → DraftsTable sh R name percent x d → is_whole (d.table ∷ R) ≡ false
 table_calls sh R name percent x d says = ap (λ (r : Record). is_whole (r ∷ R)) says.table

@@ -16,7 +16,7 @@ use Rattle.page_says.specs.Levels.{SaysFirst}
 use Rattle.page_says.proofs.FirstLevel.{first_levels_say}
 use Rattle.segment_read.specs.Segments.{number_at}
 use Rattle.mark_move.proofs.Drafting.{block_is, table_has}
-use Rattle.mark_move.proofs.Truth.{header_says, header_at_has}
+use Rattle.store_read.proofs.Truth.{header_says, header_at_has}
 use Rattle.store_core.specs.Store.{has_page}
 use Rattle.store_core.proofs.UndoLent.{page_when}
 use Rattle.place_laws.proofs.LocatedLaw.{in_at}

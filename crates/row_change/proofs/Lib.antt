@@ -1,3 +1,14 @@
+pub mod Written
+pub mod Numbered
+pub mod Unused
+pub mod Given
+pub mod RingLaw
+pub mod Searches
+pub mod Found
+pub mod Chains
+pub mod Acted
+pub mod Plans
+pub mod Made
 pub mod Having
 pub mod Positions
 pub mod Searching

@@ -14,11 +14,11 @@ use crate::sight::{Search, Sight};
 use crate::slots::look_in_block;
 use data_places::{Place as DataPlace, block_in, place_at};
 use disk_model::Disk;
-use mark_move::read_segment;
 use seg_base::{Dba, Lsn, Obj, RowNo, SPACE_BLOCK, TxnId};
 use segment_read::{WrongPage, extent_in, incarnation_in};
 use std::alloc::Global;
 use store_core::{Store, StoreFault};
+use store_read::read_segment;
 
 fn told_block<D: Disk>(
     store: &Store<D>,

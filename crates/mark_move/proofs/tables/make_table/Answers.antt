@@ -15,9 +15,9 @@ returns-in-Ok-add_two-clause-adds g c = λ R t m free.
     let d = c.in-Ok.drafted in
     let says = c.in-Ok.ensures.says R t in
     adds_ok {A = Unit {0}} M a n c.in-Ok-add_two.field-0 d.obj R (with_table_in a.shape R c.args.name.now c.args.pctfree c.args.extent)
-      (subst (λ (Q : List Record). Adds M R Q a n (Ok c.in-Ok-add_two.field-0)) (table_after a.shape R c.args.name.now c.args.pctfree c.args.extent d says)
-        (adds_on M a b n d (Ok c.in-Ok-add_two.field-0) R (d.first ∷ d.table ∷ R) t c.in-Ok.ensures.looked
-          (c.in-Ok-add_two.ensures.adds R (c.in-Ok.ensures.looked.stays_true R t) (table_lawful M a b R c.args.name.now c.args.pctfree c.args.extent d c.in-Ok.ensures.looked.loan.shape t m free says) (table_calls a.shape R c.args.name.now c.args.pctfree c.args.extent d says))))
+    (subst (λ (Q : List Record). Adds M R Q a n (Ok c.in-Ok-add_two.field-0)) (table_after a.shape R c.args.name.now c.args.pctfree c.args.extent d says)
+    (adds_on M a b n d (Ok c.in-Ok-add_two.field-0) R (d.first ∷ d.table ∷ R) t c.in-Ok.ensures.looked
+    (c.in-Ok-add_two.ensures.adds R (c.in-Ok.ensures.looked.stays_true R t) (table_lawful M a b R c.args.name.now c.args.pctfree c.args.extent d c.in-Ok.ensures.looked.loan.shape t m free says) (table_calls a.shape R c.args.name.now c.args.pctfree c.args.extent d says))))
 
 pub returns-in-Ok-add_two-clause-tried : goal.returns-in-Ok-add_two-clause-tried
 returns-in-Ok-add_two-clause-tried g c = tried_ok {A = Unit {0}} g.D.Disk.meaning c.args.store.now c.add_two.new.store c.in-Ok-add_two.field-0 c.in-Ok.drafted.obj (tried_on g.D.Disk.meaning c.args.store.now c.draft_table.new.store c.add_two.new.store c.in-Ok.drafted (Ok c.in-Ok-add_two.field-0) c.in-Ok.ensures.looked c.in-Ok-add_two.ensures.tried)
@@ -34,9 +34,9 @@ returns-in-Err-add_two-clause-adds g c = λ R t m free.
     let d = c.in-Ok.drafted in
     let says = c.in-Ok.ensures.says R t in
     adds_err {A = Unit {0}} M a n c.in-Err-add_two.fault R (with_table_in a.shape R c.args.name.now c.args.pctfree c.args.extent)
-      (subst (λ (Q : List Record). Adds {T = Unit {0}} M R Q a n (Err c.in-Err-add_two.fault)) (table_after a.shape R c.args.name.now c.args.pctfree c.args.extent d says)
-        (adds_on M a b n d (Err c.in-Err-add_two.fault) R (d.first ∷ d.table ∷ R) t c.in-Ok.ensures.looked
-          (c.in-Err-add_two.ensures.adds R (c.in-Ok.ensures.looked.stays_true R t) (table_lawful M a b R c.args.name.now c.args.pctfree c.args.extent d c.in-Ok.ensures.looked.loan.shape t m free says) (table_calls a.shape R c.args.name.now c.args.pctfree c.args.extent d says))))
+    (subst (λ (Q : List Record). Adds {T = Unit {0}} M R Q a n (Err c.in-Err-add_two.fault)) (table_after a.shape R c.args.name.now c.args.pctfree c.args.extent d says)
+    (adds_on M a b n d (Err c.in-Err-add_two.fault) R (d.first ∷ d.table ∷ R) t c.in-Ok.ensures.looked
+    (c.in-Err-add_two.ensures.adds R (c.in-Ok.ensures.looked.stays_true R t) (table_lawful M a b R c.args.name.now c.args.pctfree c.args.extent d c.in-Ok.ensures.looked.loan.shape t m free says) (table_calls a.shape R c.args.name.now c.args.pctfree c.args.extent d says))))
 
 pub returns-in-Err-add_two-clause-tried : goal.returns-in-Err-add_two-clause-tried
 returns-in-Err-add_two-clause-tried g c = tried_err {A = Unit {0}} g.D.Disk.meaning c.args.store.now c.add_two.new.store c.in-Err-add_two.fault (tried_on g.D.Disk.meaning c.args.store.now c.draft_table.new.store c.add_two.new.store c.in-Ok.drafted (Err c.in-Err-add_two.fault) c.in-Ok.ensures.looked c.in-Err-add_two.ensures.tried)

@@ -15,9 +15,9 @@ returns-in-Ok-make_table-clause-adds g c = λ R t m.
     let free = sym c.in-Ok-Some.field-0-is ∙ c.in-Ok-Some.ensures.says R t in
     let same = c.in-Ok-Some.ensures.looked.loan.shape in
     adds_ok {A = ℕ} M a n c.in-Ok-make_table.obj tt R (with_table a.shape R c.args.name.now c.args.pctfree)
-      (subst (λ (Q : List Record). Adds M R Q a n (Ok c.in-Ok-make_table.obj)) (in_free a.shape b.shape R c.args.name.now c.args.pctfree c.in-Ok-Some.extent same free)
-        (adds_on M a b n c.in-Ok-Some.field-0 (Ok c.in-Ok-make_table.obj) R _ t c.in-Ok-Some.ensures.looked
-          (c.in-Ok-make_table.ensures.adds R (c.in-Ok-Some.ensures.looked.stays_true R t) m (free_at a.shape b.shape R c.in-Ok-Some.extent same free))))
+    (subst (λ (Q : List Record). Adds M R Q a n (Ok c.in-Ok-make_table.obj)) (in_free a.shape b.shape R c.args.name.now c.args.pctfree c.in-Ok-Some.extent same free)
+    (adds_on M a b n c.in-Ok-Some.field-0 (Ok c.in-Ok-make_table.obj) R _ t c.in-Ok-Some.ensures.looked
+    (c.in-Ok-make_table.ensures.adds R (c.in-Ok-Some.ensures.looked.stays_true R t) m (free_at a.shape b.shape R c.in-Ok-Some.extent same free))))
 
 pub returns-in-Ok-make_table-clause-tried : goal.returns-in-Ok-make_table-clause-tried
 returns-in-Ok-make_table-clause-tried g c = tried_ok {A = ℕ} g.D.Disk.meaning c.args.store.now c.make_table.new.store c.in-Ok-make_table.obj tt (tried_on g.D.Disk.meaning c.args.store.now c.find_free.new.store c.make_table.new.store c.in-Ok-Some.field-0 (Ok c.in-Ok-make_table.obj) c.in-Ok-Some.ensures.looked c.in-Ok-make_table.ensures.tried)
@@ -34,9 +34,9 @@ returns-in-Err-make_table-clause-adds g c = λ R t m.
     let free = sym c.in-Ok-Some.field-0-is ∙ c.in-Ok-Some.ensures.says R t in
     let same = c.in-Ok-Some.ensures.looked.loan.shape in
     adds_err {A = ℕ} M a n c.in-Err-make_table.fault R (with_table a.shape R c.args.name.now c.args.pctfree)
-      (subst (λ (Q : List Record). Adds {T = ℕ} M R Q a n (Err c.in-Err-make_table.fault)) (in_free a.shape b.shape R c.args.name.now c.args.pctfree c.in-Ok-Some.extent same free)
-        (adds_on M a b n c.in-Ok-Some.field-0 (Err c.in-Err-make_table.fault) R _ t c.in-Ok-Some.ensures.looked
-          (c.in-Err-make_table.ensures.adds R (c.in-Ok-Some.ensures.looked.stays_true R t) m (free_at a.shape b.shape R c.in-Ok-Some.extent same free))))
+    (subst (λ (Q : List Record). Adds {T = ℕ} M R Q a n (Err c.in-Err-make_table.fault)) (in_free a.shape b.shape R c.args.name.now c.args.pctfree c.in-Ok-Some.extent same free)
+    (adds_on M a b n c.in-Ok-Some.field-0 (Err c.in-Err-make_table.fault) R _ t c.in-Ok-Some.ensures.looked
+    (c.in-Err-make_table.ensures.adds R (c.in-Ok-Some.ensures.looked.stays_true R t) m (free_at a.shape b.shape R c.in-Ok-Some.extent same free))))
 
 pub returns-in-Err-make_table-clause-tried : goal.returns-in-Err-make_table-clause-tried
 returns-in-Err-make_table-clause-tried g c = tried_err {A = ℕ} g.D.Disk.meaning c.args.store.now c.make_table.new.store c.in-Err-make_table.fault (tried_on g.D.Disk.meaning c.args.store.now c.find_free.new.store c.make_table.new.store c.in-Ok-Some.field-0 (Err c.in-Err-make_table.fault) c.in-Ok-Some.ensures.looked c.in-Err-make_table.ensures.tried)

@@ -1,0 +1,9 @@
+use Rattle.std.proofs.Common.{◌∷◌, ℕ}
+use Rattle.store_core.proofs.Additions.{adds_ok, adds_err}
+use Rattle.row_change.proofs.adding.add_one.Goals as goal
+
+pub returns-in-Ok-clause-makes : goal.returns-in-Ok-clause-makes
+returns-in-Ok-clause-makes g c = λ R t lawful. adds_ok {A = ℕ} g.D.Disk.meaning c.args.store.now c.record.new.self c.in-Ok.field-0 tt R (c.args.rec.now ∷ R) (c.in-Ok.ensures.adds R t lawful)
+
+pub returns-in-Err-clause-makes : goal.returns-in-Err-clause-makes
+returns-in-Err-clause-makes g c = λ R t lawful. adds_err {A = ℕ} g.D.Disk.meaning c.args.store.now c.record.new.self c.in-Err.fault R (c.args.rec.now ∷ R) (c.in-Err.ensures.adds R t lawful)

@@ -29,7 +29,7 @@ pub struct Drafted {
 }
 
 /// The records of a new table whose first extent begins at this block.
-fn drafted(first: Dba, extent: u32, obj: Obj, pctfree: u8, name: Name) -> Drafted
+fn both_records(first: Dba, extent: u32, obj: Obj, pctfree: u8, name: Name) -> Drafted
     requires { first ≤ MOST_BLOCKS }
     ensures obj { result.obj ≡ obj }
     ensures table { result.table ≡ TableOf (record { obj = obj; header = first + 3; pctfree = pctfree; name = name }) }
@@ -82,7 +82,7 @@ fn draft_table<D: Disk>(
         return Err(store.refuse(Dba(SPACE_BLOCK)));
     }
     match name.duplicate(alloc) {
-        Ok(copy) => Ok(drafted(first, extent, Obj(count + 1), pctfree, copy)),
+        Ok(copy) => Ok(both_records(first, extent, Obj(count + 1), pctfree, copy)),
         Err(_) => Err(StoreFault::NoMemory),
     }
 }

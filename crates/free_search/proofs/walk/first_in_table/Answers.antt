@@ -24,7 +24,7 @@ pub returns-in-Ok-Some-clause-says : goal.returns-in-Ok-Some-clause-says
 returns-in-Ok-Some-clause-says g c = λ R t k. passed_found g.D.Disk.meaning c.args.store.now c.loop-index.store c.args.look.now c.args.wanted.now c.args.only c.loop-index.index c.loop-index.passed c.in-Ok-Some.dba R c.loop-index-test.true c.loop-index.invariant (λ Q q z m p. subst (λ (o : Option ℕ). FirstWithin (passes_in c.args.look.now.shape Q (row_sought c.args.look.now) c.args.wanted.now c.args.only) (data_blocks c.args.look.now.shape Q c.args.look.now.segment.obj) c.args.look.now.segment.high c.loop-index.passed (c.loop-index.passed + (c.args.look.now.shape.extent - head_blocks c.loop-index.index)) o) c.in-Ok-Some.field-0-is (c.in-Ok-Some.ensures.says Q q z m p)) t k
 
 pub loop-index-preserved : goal.loop-index-preserved
-loop-index-preserved g c = passed_next g.D.Disk.meaning c.args.store.now c.loop-index.store c.first_in_extent.new.store c.args.look.now c.args.wanted.now c.args.only c.loop-index.index c.loop-index.passed _ c.requires.shape c.loop-index-test.true c.loop-index.invariant (subst (λ (o : Option ℕ). HasLooked g.D.Disk.meaning c.loop-index.store c.first_in_extent.new.store (Ok o)) c.in-Ok-None.field-0-is c.in-Ok-None.ensures.looked) (λ Q q z m p. subst (λ (o : Option ℕ). FirstWithin (passes_in c.args.look.now.shape Q (row_sought c.args.look.now) c.args.wanted.now c.args.only) (data_blocks c.args.look.now.shape Q c.args.look.now.segment.obj) c.args.look.now.segment.high c.loop-index.passed (c.loop-index.passed + (c.args.look.now.shape.extent - head_blocks c.loop-index.index)) o) c.in-Ok-None.field-0-is (c.in-Ok-None.ensures.says Q q z m p)) (ap (λ n. c.loop-index.passed + n) c.data_room.ensures.value)
+loop-index-preserved g c = passed_next g.D.Disk.meaning c.args.store.now c.loop-index.store c.first_in_extent.new.store c.args.look.now c.args.wanted.now c.args.only c.loop-index.index c.loop-index.passed _ c.requires.shape c.loop-index-test.true c.loop-index.invariant (subst (λ (o : Option ℕ). HasLooked g.D.Disk.meaning c.loop-index.store c.first_in_extent.new.store (Ok o)) c.in-Ok-None.field-0-is c.in-Ok-None.ensures.looked) (λ Q q z m p. subst (λ (o : Option ℕ). FirstWithin (passes_in c.args.look.now.shape Q (row_sought c.args.look.now) c.args.wanted.now c.args.only) (data_blocks c.args.look.now.shape Q c.args.look.now.segment.obj) c.args.look.now.segment.high c.loop-index.passed (c.loop-index.passed + (c.args.look.now.shape.extent - head_blocks c.loop-index.index)) o) c.in-Ok-None.field-0-is (c.in-Ok-None.ensures.says Q q z m p)) (ap (λ n. c.loop-index.passed + n) c.data_room-passed.ensures.value)
 
 pub returns-clause-looked : goal.returns-clause-looked
 returns-clause-looked g c = looked_ok g.D.Disk.meaning c.args.store.now c.loop-index.store tt _ c.loop-index.invariant.looked

@@ -16,7 +16,7 @@ pub returns-in-Ok-duplicate-clause-looked : goal.returns-in-Ok-duplicate-clause-
 returns-in-Ok-duplicate-clause-looked g c = looked_ok g.D.Disk.meaning c.args.store.now c.count_tables.new.store c.in-Ok.count _ c.in-Ok.ensures.looked
 
 pub returns-in-Ok-duplicate-clause-says : goal.returns-in-Ok-duplicate-clause-says
-returns-in-Ok-duplicate-clause-says g c = λ R t. drafts_table c.shape-shape.result c.args.store.now.shape R c.args.name.now c.in-Ok-duplicate.copy c.args.pctfree c.args.extent c.in-Some.first c.in-Ok.count (c.in-Ok.count + 1) c.drafted.result c.shape-shape.ensures (sym c.block_in.ensures ∙ c.in-Some.is) (c.in-Ok.ensures.says R t) c.in-Ok-duplicate.ensures refl c.drafted.ensures.obj c.drafted.ensures.table c.drafted.ensures.first
+returns-in-Ok-duplicate-clause-says g c = λ R t. drafts_table c.shape-shape.result c.args.store.now.shape R c.args.name.now c.in-Ok-duplicate.copy c.args.pctfree c.args.extent c.in-Some.first c.in-Ok.count (c.in-Ok.count + 1) c.both_records.result c.shape-shape.ensures (sym c.block_in.ensures ∙ c.in-Some.is) (c.in-Ok.ensures.says R t) c.in-Ok-duplicate.ensures refl c.both_records.ensures.obj c.both_records.ensures.table c.both_records.ensures.first
 
 pub returns-in-Err-duplicate-clause-looked : goal.returns-in-Err-duplicate-clause-looked
 returns-in-Err-duplicate-clause-looked g c = looked_memory g.D.Disk.meaning c.args.store.now c.count_tables.new.store c.in-Ok.count c.in-Ok.ensures.looked

@@ -124,6 +124,7 @@ left_next xs i b x l e h k = subst (λ n. is_left_out (take n xs) b ≡ false) (
     or_second : (u v : Bool) → (u || v) ≡ false → v ≡ false
     or_second true v z = absurd (true≢false z)
     or_second false v z = z
+
     go : (xs : List (Option ℕ)) (i : ℕ) → i < length xs → x ≡ get_or xs i x → is_left_out (take i xs) b ≡ false → is_left_out (take (suc i) xs) b ≡ false
     go [] i l e k = absurd (omega (arith, l))
     go (y ∷ ys) zero l e k = subst (λ (d : Option ℕ). is_left_out (d ∷ []) b ≡ false) e h

@@ -229,8 +229,8 @@ extent_says meaning a b R l w only index passed x first head count r t k p n f h
     let e = begins R l index x first n f in
     let few = head_below l.shape index known.shape in
     ok_map _ _ r
-      (λ found of. lifted R l (passes l.shape R (row_sought l) w) only index passed first head count l.segment.high e.extent found (record { first = e.first; there = there; passed_is = before }) (wants R l only e.extent.number (ap (is_elsewhere only) e.number ∙ here)) h few under c of)
-      (says R index e.extent (p.stays_true R t) (knows_later meaning a b R l p.loan k) e.first (omega (arith, h)) (omega (arith, h, c, few)))
+    (λ found of. lifted R l (passes l.shape R (row_sought l) w) only index passed first head count l.segment.high e.extent found (record { first = e.first; there = there; passed_is = before }) (wants R l only e.extent.number (ap (is_elsewhere only) e.number ∙ here)) h few under c of)
+    (says R index e.extent (p.stays_true R t) (knows_later meaning a b R l p.loan k) e.first (omega (arith, h)) (omega (arith, h, c, few)))
 
 pub extent_sound : {D : Type 0} (meaning : Meaning D) (a b : Held D) (R : List Record) (l : Look) (index x first head count high passed : ℕ) (P : Type 0) → IsTrue meaning R a → Knows a.shape R l → HasLooked {T = ℕ} meaning a b (Ok x)
     → number_at (extents_of R l.segment.obj) index ≡ Some x → block_or_none l.shape x 0 ≡ Some first → head ≡ head_blocks index → count ≡ min (l.shape.extent - head) (high - passed)

@@ -35,9 +35,9 @@ returns-then-needs_room-clause-says g c = λ R index e t k f least u.
     let needs = sym c.needs_room.ensures ∙ c.if-needs_room.true in
     let row = row_block R l index e c.args.first c.args.nth known f least u (code_formatted l.shape R c.args.wanted.now b c.in-Ok.code known.lawful.allowed code has needs) in
     subst (λ (v : Option ℕ). IfOk c.room_at.result (λ r. r ≡ v)) (with_room l.shape R (row_sought l) c.args.wanted.now b c.in-Ok.code known.lawful.allowed code has needs)
-      (subst (λ (d : ℕ). IfOk c.room_at.result (λ r. r ≡ found_if (room_for R (row_sought l) d) d)) same
-        (c.room_at.ensures.says R (c.in-Ok.ensures.looked.stays_true R t) (knows_later g.D.Disk.meaning c.args.store.now c.code_at.new.store R l c.in-Ok.ensures.looked.loan k)
-          (subst (λ (d : ℕ). IsRowBlock l.shape R l.segment.obj d) (sym same) row)))
+    (subst (λ (d : ℕ). IfOk c.room_at.result (λ r. r ≡ found_if (room_for R (row_sought l) d) d)) same
+    (c.room_at.ensures.says R (c.in-Ok.ensures.looked.stays_true R t) (knows_later g.D.Disk.meaning c.args.store.now c.code_at.new.store R l c.in-Ok.ensures.looked.loan k)
+    (subst (λ (d : ℕ). IsRowBlock l.shape R l.segment.obj d) (sym same) row)))
 
 pub returns-then-needs_room-clause-sound : goal.returns-then-needs_room-clause-sound
 returns-then-needs_room-clause-sound g c = λ R index e t k f least u n.
@@ -46,7 +46,7 @@ returns-then-needs_room-clause-sound g c = λ R index e t k f least u n.
     let code = code_told g.D.Disk.meaning c.args.store.now R l index c.args.first c.args.nth c.in-Ok.code e t k f least u (λ Q o i x q at is m. c.in-Ok.ensures.says Q o i x q at is m) in
     let row = row_block R l index e c.args.first c.args.nth known f least u (code_formatted l.shape R c.args.wanted.now (c.args.first + c.args.nth) c.in-Ok.code known.lawful.allowed code (sym c.has_code.ensures ∙ c.if-not-has_code.false) (sym c.needs_room.ensures ∙ c.if-needs_room.true)) in
     c.room_at.ensures.sound R (c.in-Ok.ensures.looked.stays_true R t) (knows_later g.D.Disk.meaning c.args.store.now c.code_at.new.store R l c.in-Ok.ensures.looked.loan k)
-      (subst (λ (d : ℕ). IsRowBlock l.shape R l.segment.obj d) (sym c.nth_block-dba.ensures) row)
+    (subst (λ (d : ℕ). IsRowBlock l.shape R l.segment.obj d) (sym c.nth_block-dba.ensures) row)
 
 pub returns-clause-looked : goal.returns-clause-looked
 returns-clause-looked g c = looked_ok g.D.Disk.meaning c.args.store.now c.code_at.new.store c.in-Ok.code _ c.in-Ok.ensures.looked

@@ -1,5 +1,5 @@
 -- What the pages that a movement of the marks is drafted from say of a lawful list, and that the records keep it lawful.
-use Rattle.std.proofs.Common.{◌≡◌, ℕ, zero, suc, ◌<◌, true, not, List, [], ◌∷◌, length, Option, Some, None, sym, ◌∙◌, ap, subst, arith}
+use Rattle.std.proofs.Common.{◌≡◌, ℕ, zero, suc, ◌<◌, Bool, true, not, List, [], ◌∷◌, length, Option, Some, None, sym, ◌∙◌, ap, subst, arith}
 use Rattle.seg_words.proofs.Lemmas.{and_parts}
 use Rattle.seg_words.specs.Types.{Shape, is_shape, is_extent, MOST_TABLES}
 use Rattle.redo_model.specs.Records.{Record, Movement}

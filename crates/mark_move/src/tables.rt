@@ -71,8 +71,9 @@ fn draft_table<D: Disk>(
     if !shape.is_within_limits() {
         return Err(store.refuse(Dba(SPACE_BLOCK)));
     }
-    let Some(first) = block_in(&shape, extent, 0) else {
-        return Err(store.refuse(Dba(SPACE_BLOCK)));
+    let first = match block_in(&shape, extent, 0) {
+        Some(first) => first,
+        None => return Err(store.refuse(Dba(SPACE_BLOCK))),
     };
     let count = match count_tables(store) {
         Ok(count) => count,

@@ -20,3 +20,6 @@ returns-in-Ok-duplicate-clause-says g c = λ R t. drafts_table c.shape-shape.res
 
 pub returns-in-Err-duplicate-clause-looked : goal.returns-in-Err-duplicate-clause-looked
 returns-in-Err-duplicate-clause-looked g c = looked_memory g.D.Disk.meaning c.args.store.now c.count_tables.new.store c.in-Ok.count c.in-Ok.ensures.looked
+
+pub returns-in-Err-clause-sound : goal.returns-in-Err-clause-sound
+returns-in-Err-clause-sound g c = λ R t m free n. c.in-Err.ensures.sound R t n

@@ -25,8 +25,8 @@ returns-in-Ok-add_two-clause-tried g c = tried_ok {A = Unit {0}} g.D.Disk.meanin
 pub returns-in-Ok-add_two-clause-number : goal.returns-in-Ok-add_two-clause-number
 returns-in-Ok-add_two-clause-number g c = λ R t. (c.in-Ok.ensures.says R t).obj
 
-pub returns-in-Err-add_two-clause-adds : goal.returns-in-Err-add_two-clause-adds
-returns-in-Err-add_two-clause-adds g c = λ R t m free.
+pub returns-in-Ok-clause-adds : goal.returns-in-Ok-clause-adds
+returns-in-Ok-clause-adds g c = λ R t m free.
     let M = g.D.Disk.meaning in
     let a = c.args.store.now in
     let b = c.draft_table.new.store in
@@ -38,11 +38,11 @@ returns-in-Err-add_two-clause-adds g c = λ R t m free.
     (adds_on M a b n d (Err c.in-Err-add_two.fault) R (d.first ∷ d.table ∷ R) t c.in-Ok.ensures.looked
     (c.in-Err-add_two.ensures.adds R (c.in-Ok.ensures.looked.stays_true R t) (table_lawful M a b R c.args.name.now c.args.pctfree c.args.extent d c.in-Ok.ensures.looked.loan.shape t m free says) (table_calls a.shape R c.args.name.now c.args.pctfree c.args.extent d says))))
 
-pub returns-in-Err-add_two-clause-tried : goal.returns-in-Err-add_two-clause-tried
-returns-in-Err-add_two-clause-tried g c = tried_err {A = Unit {0}} g.D.Disk.meaning c.args.store.now c.add_two.new.store c.in-Err-add_two.fault (tried_on g.D.Disk.meaning c.args.store.now c.draft_table.new.store c.add_two.new.store c.in-Ok.drafted (Err c.in-Err-add_two.fault) c.in-Ok.ensures.looked c.in-Err-add_two.ensures.tried)
+pub returns-in-Ok-clause-tried : goal.returns-in-Ok-clause-tried
+returns-in-Ok-clause-tried g c = tried_err {A = Unit {0}} g.D.Disk.meaning c.args.store.now c.add_two.new.store c.in-Err-add_two.fault (tried_on g.D.Disk.meaning c.args.store.now c.draft_table.new.store c.add_two.new.store c.in-Ok.drafted (Err c.in-Err-add_two.fault) c.in-Ok.ensures.looked c.in-Err-add_two.ensures.tried)
 
-pub returns-in-Err-clause-adds : goal.returns-in-Err-clause-adds
-returns-in-Err-clause-adds g c = λ R t m free. adds_none g.D.Disk.meaning c.args.store.now c.draft_table.new.store c.in-Err.fault R (with_table_in c.args.store.now.shape R c.args.name.now c.args.pctfree c.args.extent) t c.in-Err.ensures.looked (λ n. c.in-Err.ensures.sound R t m free n)
+pub returns-clause-adds : goal.returns-clause-adds
+returns-clause-adds g c = λ R t m free. adds_none g.D.Disk.meaning c.args.store.now c.draft_table.new.store c.in-Err.fault R (with_table_in c.args.store.now.shape R c.args.name.now c.args.pctfree c.args.extent) t c.in-Err.ensures.looked (λ n. c.in-Err.ensures.sound R t m free n)
 
-pub returns-in-Err-clause-tried : goal.returns-in-Err-clause-tried
-returns-in-Err-clause-tried g c = tried_none g.D.Disk.meaning c.args.store.now c.draft_table.new.store c.in-Err.fault c.in-Err.ensures.looked
+pub returns-clause-tried : goal.returns-clause-tried
+returns-clause-tried g c = tried_none g.D.Disk.meaning c.args.store.now c.draft_table.new.store c.in-Err.fault c.in-Err.ensures.looked

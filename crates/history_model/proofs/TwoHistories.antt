@@ -240,8 +240,8 @@ told_busy = (
       means = record {
         keeps = refl;
         cause = record { obj = 1; row = 1; on = on_row (span_at two_scripts two_records 2 0 11 (drop 10 two_history) 11) text_three 1 1 refl refl; was = text_one; there = refl; busy = record { step = _; newest = refl; by_is = refl; active = refl; other = λ e. absurd (omega (arith, e)) } };
-        no_row = refl;
-        not_begun = refl;
+        at_once = λ e. absurd (true≢false (sym e));
+        so_far = record { own = refl; rows = refl; begins = refl };
       };
       passes = busy_passes (span_at two_scripts two_records 2 0 11 (drop 10 two_history) 11) text_three 1 1 2 text_one (update_passes (span_at two_scripts two_records 2 0 11 (drop 10 two_history) 11) text_three 1 1 refl refl (lit< tt)) (on_row (span_at two_scripts two_records 2 0 11 (drop 10 two_history) 11) text_three 1 1 refl refl) refl;
     },

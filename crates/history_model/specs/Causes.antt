@@ -4,13 +4,14 @@
 -- ORA-00054, ORA-01555, ORA-08103, ORA-01653, ORA-30036, as far as their like is meant; what exactly calls for each is this
 -- engine's own.
 use Rattle.std.specs.Prelude.{◌≡◌, ◌≢◌, ◌⊎◌, ℕ, ◌+◌, ◌*◌, ◌<◌, ◌≤◌, Bool, true, false, List, [], ◌∷◌, length, drop, MatchOption, Option, Some, None, slice_get}
-use Rattle.seg_words.specs.Types.{Shape, Row, Full, Fs4, class_code, UndoAddr, UNDO_PART_SIZE, MOST_TABLES, MOST_EXTENTS}
+use Rattle.seg_words.specs.Types.{Shape, Row, Full, Fs4, class_code, writer_has_ended, UndoAddr, UNDO_PART_SIZE, MOST_TABLES, MOST_EXTENTS}
 use Rattle.redo_model.specs.Records.{Record}
-use Rattle.redo_model.specs.Model.{prefix, commit_count, view, image, extents_of, IsRowBlock, table_count, table_named, has_movement, is_free_extent}
+use Rattle.redo_model.specs.Model.{prefix, commit_count, ended_in, view, image, extents_of, IsRowBlock, table_count, table_named, has_movement, is_free_extent}
 use Rattle.redo_laws.specs.Scan.{scan_list}
 use Rattle.session_laws.specs.Sessions.{own_of, own_number}
 use Rattle.scan_laws.specs.Changes.{changed_between}
-use Rattle.shrink_laws.specs.Stops.{row_image, IsMovable, IsAt, LeadsDown}
+use Rattle.shrink_laws.specs.declared.skip.Skip.{Skip}
+use Rattle.shrink_laws.specs.Stops.{row_image, LeadsDown, SkipsStand}
 use Rattle.mark_laws.specs.Movements.{IsFull as AllFull}
 use Rattle.mark_laws.specs.Searches.{Sought, is_usable, find_of, HasNone}
 use Rattle.mark_laws.specs.declared.step.Found.TheVariants as found
@@ -29,6 +30,8 @@ use Rattle.history_text.specs.declared.refusal.Refusal.TheVariants as why
 use Rattle.history_model.specs.declared.limit.TheConstants.{MOST_STARTS, NEW_WORK_RECORDS}
 use Rattle.history_model.specs.History.{Task, under_way, statement_of, bound}
 use Rattle.history_model.specs.Spans.{Span, own_then, target_row, table_asked, target_asked}
+use Rattle.history_model.specs.SoFar.{IsUnlowered}
+use Rattle.history_model.specs.Stopping.{HasCome, MayGo, AreSkippedAt}
 use Rattle.history_model.specs.Released.{first_gone}
 
 -- ---- as the statement began
@@ -264,16 +267,20 @@ abbrev pub HasMoveParts : Shape → List Record → ℕ → ℕ → ℕ → ℕ 
 HasMoveParts sh E o place d k parts =
     ((parts ≡ 2) × (((image E d k).kind ≡ Row) ⊎ LeadsDown sh E o place d k)) ⊎ ((parts ≡ 3) × ((image E d k).kind ≢ Row) × (LeadsDown sh E o place d k → ⊥))
 
--- a move of a row that could move
+-- the move of the row that is next, past what was skipped: its last writer has ended, and it has a place to go to
 pub record MoveNeeds (sh : Shape) (x : Span) (name : List ℕ) (need : ℕ) : Type 0 where
   pub obj : ℕ
   pub table : table_named x.begun name ≡ Some obj
+  pub unlowered : IsUnlowered x obj
+  pub skips : List Skip
+  pub skipped_so : SkipsStand x.begun x.ended skips
+  pub skipped_at : AreSkippedAt sh x.begun x.ended obj skips
   pub place : ℕ
   pub block : ℕ
   pub slot : ℕ
-  pub here : IsAt sh x.ended obj place block
-  pub not_first : 1 ≤ place
-  pub movable : IsMovable x.ended block slot
+  pub come : HasCome sh x.begun x.ended obj skips place block slot
+  pub over : writer_has_ended (ended_in x.ended) (row_image x.ended block slot).writer ≡ true
+  pub goes : MayGo sh x.ended obj place block slot
   pub parts : ℕ
   pub parts_are : HasMoveParts sh x.ended obj place block slot parts
   pub size : need ≡ parts * UNDO_PART_SIZE + length (row_image x.ended block slot).bytes

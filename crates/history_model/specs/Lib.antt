@@ -1,6 +1,8 @@
 pub mod History
 pub mod Spans
 pub mod Released
+pub mod SoFar
+pub mod Stopping
 pub mod Causes
 pub mod Order
 pub mod Passing
@@ -10,4 +12,5 @@ pub mod ShrinkMeans
 pub mod Means
 pub mod Makes
 pub mod Legal
+pub mod Running
 pub mod Worked

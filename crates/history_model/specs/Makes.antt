@@ -7,7 +7,7 @@ use Rattle.redo_model.specs.Model.{row_bytes, table_named}
 use Rattle.session_laws.specs.Sessions.{own_of}
 use Rattle.mark_laws.specs.Searches.{Sought, is_good, HasNone}
 use Rattle.change_laws.specs.Drafts.{Stand}
-use Rattle.change_laws.specs.Ready.{ToOther, path_of, StandsAt}
+use Rattle.change_laws.specs.Ready.{ToOther, path_of, first_lacking, updated_blocks, MayWrite}
 use Rattle.script_text.specs.declared.statement.Statement.{Statement}
 use Rattle.script_text.specs.declared.statement.Statement.TheVariants as asked
 use Rattle.script_text.specs.declared.statement.Target.{Target}
@@ -45,14 +45,16 @@ pub record InsertMoves (sh : Shape) (name text : List ℕ) (w : ℕ) (Q : List R
   pub table : table_named Q name ≡ Some o
   pub none : NoneGood sh Q (sought_for (own_of Q w) o (length text) [])
 
--- so does an update of which the row goes to another block: its own blocks are left out
+-- So does an update of a row that may be changed, of which no block lacks a list entry, where it goes to another block: its own
+-- blocks are left out.
 pub record UpdateMoves (sh : Shape) (scripts : List (List Statement)) (past : List HistoryItem) (name : List ℕ) (target : Target) (text : List ℕ) (w : ℕ) (Q : List Record) (o : ℕ) : Type 0 where
   pub table : table_named Q name ≡ Some o
   pub row : ℕ
   pub meant : target_row scripts past target ≡ Some row
   pub stand : Stand
-  pub stands : StandsAt Q row stand
+  pub write : MayWrite Q (own_of Q w) o row stand
   pub away : path_of Q (own_of Q w) stand (length text) ≡ ToOther
+  pub entries : first_lacking Q (own_of Q w) (updated_blocks Q (own_of Q w) stand (length text)) ≡ None
   pub none : NoneGood sh Q (sought_for (own_of Q w) o (length text) (own_blocks stand))
 
 -- a Class of the block that is to be fixed, of the class that is to be kept

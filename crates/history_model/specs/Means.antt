@@ -2,7 +2,6 @@
 -- statement.
 use Rattle.std.specs.Prelude.{◌≡◌, ℕ, true, false, Option, Some, None}
 use Rattle.seg_words.specs.Types.{Shape}
-use Rattle.session_laws.specs.Sessions.{own_rows, own_begins}
 use Rattle.script_text.specs.declared.statement.Statement.{Statement}
 use Rattle.script_text.specs.declared.statement.Statement.TheVariants as asked
 use Rattle.history_text.specs.declared.outcome.Outcome.{Outcome}
@@ -12,7 +11,8 @@ use Rattle.history_text.specs.declared.refusal.Refusal.TheVariants as why
 use Rattle.history_model.specs.declared.history.Kept.{Kept}
 use Rattle.history_model.specs.declared.history.Kept.TheVariants as kept
 use Rattle.history_model.specs.Spans.{Span}
-use Rattle.history_model.specs.Order.{passes_over}
+use Rattle.history_model.specs.SoFar.{SoFar}
+use Rattle.history_model.specs.Order.{is_first_tested, passes_over}
 use Rattle.history_model.specs.Causes.{Cause}
 use Rattle.history_model.specs.RowMeans.{InsertMeans, UpdateMeans, DeleteMeans, CommitMeans, RollbackMeans, NothingMeans}
 use Rattle.history_model.specs.TableMeans.{TableMeans, MovementMeans, ScanMeans, UsageMeans, FixMeans, RepairMeans}
@@ -29,12 +29,13 @@ Keeps (why.TooOld a) k = k ≡ kept.Read (blocks_read k)
 Keeps (why.TooOldEntry u) k = k ≡ kept.Read (blocks_read k)
 Keeps refusal k = k ≡ kept.Nothing
 
--- refused: by its cause, and the session has changed no row and begun no transaction
+-- Refused: by its cause. What is tested as the statement begins is refused by its first event, which adds no record. What is
+-- tested later finds the statement as it was before its last event: its session has changed no row and begun no transaction.
 pub record RefusalMeans (sh : Shape) (x : Span) (st : Statement) (refusal : Refusal) (k : Kept) : Type 0 where
   pub keeps : Keeps refusal k
   pub cause : Cause sh x st (blocks_read k) refusal
-  pub no_row : own_rows x.ended x.session ≡ own_rows x.begun x.session
-  pub not_begun : own_begins x.ended x.session ≡ own_begins x.begun x.session
+  pub at_once : is_first_tested refusal ≡ true → x.ended ≡ x.begun
+  pub so_far : SoFar x (Some st)
 
 -- the printed name is the stated one
 abbrev pub Means : Shape → Span → Option Statement → Outcome → Kept → Type 0

@@ -23,6 +23,10 @@ pub record Span : Type 0 where
 abbrev pub span_of : List (List Statement) → List Record → ℕ → Task → ℕ → Span
 span_of scripts R w task n = record { session = w; scripts = scripts; past = task.past; begun = prefix R task.begins; ended = prefix R n }
 
+-- that of a statement of session w under way: it ends with the records as they are
+abbrev pub now_of : List (List Statement) → List Record → ℕ → Task → Span
+now_of scripts R w task = record { session = w; scripts = scripts; past = task.past; begun = prefix R task.begins; ended = R }
+
 -- the session's active transaction at its end
 abbrev pub own_then : Span → Option ℕ
 own_then x = own_of x.ended x.session

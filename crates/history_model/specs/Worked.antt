@@ -1,9 +1,9 @@
 -- Two small histories that are legal, the second of two sessions whose events alternate, and some that are not.
-use Rattle.std.specs.Prelude.{ℕ, List, [], ◌∷◌, Some, None}
+use Rattle.std.specs.Prelude.{ℕ, true, List, [], ◌∷◌, Some, None}
 use Rattle.seg_words.specs.Types.{By, At, Slot, Writer}
 use Rattle.redo_model.specs.Records.{Record, Begin, Update}
 use Rattle.redo_model.specs.Model.{prefix}
-use Rattle.redo_model.specs.Worked.{small, hello, row_by, part, change, insert, table_t, extend_by, advance_4, format_block, begin, commit, reuse_37, clean, nine}
+use Rattle.redo_model.specs.Worked.{small, hello, row_by, part, change, insert, table_t, movement_on, extend_by, advance_4, format_block, begin, commit, reuse_37, clean, nine}
 use Rattle.script_text.specs.declared.statement.Statement.{Statement}
 use Rattle.script_text.specs.declared.statement.Statement.TheVariants as asked
 use Rattle.script_text.specs.declared.statement.Target.TheVariants.{Label}
@@ -15,6 +15,7 @@ use Rattle.history_model.specs.declared.history.Kept.TheVariants as kept
 use Rattle.history_model.specs.declared.history.HistoryItem.{HistoryItem}
 use Rattle.history_model.specs.declared.history.HistoryItem.TheVariants as item
 use Rattle.history_model.specs.Legal.{AreTold, IsLegal}
+use Rattle.history_model.specs.Running.{IsRunning}
 
 abbrev pub name_t : List ℕ
 name_t = 116 ∷ []
@@ -120,9 +121,25 @@ beside_scripts = (asked.Table name_t 10 ∷ asked.Insert name_t label_a hello �
 abbrev pub IsRefused : List (List Statement) → List Record → List HistoryItem → Type 0
 IsRefused scripts R T = AreTold small scripts 0 R T → ⊥
 
+-- a script that asks for row movement beside its open transaction
+abbrev pub moved_script : List (List Statement)
+moved_script = (asked.Table name_t 10 ∷ asked.Insert name_t label_a hello ∷ asked.Movement name_t true ∷ []) ∷ []
+
+abbrev pub table_told : HistoryItem
+table_told = told_at 1 1 0 2 (told.Table name_t)
+
+abbrev pub table_made : List HistoryItem
+table_made = table_told ∷ start_at 1 0 ∷ []
+
 pub record HistoriesAreRefused : Type 0 where
   pub commit_told_before_its_record : IsRefused one_script nine (told_at 1 3 7 7 (told.Committed 1) ∷ start_at 1 7 ∷ one_inserted)
-  pub two_statements_under_way : IsRefused one_script nine (start_at 1 7 ∷ start_at 1 2 ∷ told_at 1 1 0 2 (told.Table name_t) ∷ start_at 1 0 ∷ [])
+  pub two_statements_under_way : IsRefused one_script nine (start_at 1 7 ∷ start_at 1 2 ∷ table_made)
   pub uncommitted_row_shown : IsRefused beside_scripts (prefix nine 7) (told_at 2 1 7 7 (told.Scan name_t 0 (row_1 hello ∷ [])) ∷ start_at 2 7 ∷ one_inserted)
   pub session_of_no_script : IsRefused one_script nine (start_at 2 7 ∷ one_inserted)
-  pub table_refused_beside_none : IsRefused one_script nine (told_at 1 2 2 2 (told.Refused why.NoTable) ∷ start_at 1 2 ∷ told_at 1 1 0 2 (told.Table name_t) ∷ start_at 1 0 ∷ [])
+  pub table_refused_beside_none : IsRefused one_script nine (told_at 1 2 2 2 (told.Refused why.NoTable) ∷ start_at 1 2 ∷ table_made)
+  pub refused_with_its_work_done : IsRefused moved_script (movement_on ∷ prefix nine 7) (told_at 1 3 7 8 (told.Refused why.TransactionOpen) ∷ start_at 1 7 ∷ one_inserted)
+  pub row_left_out : IsRefused one_script nine (told_at 1 4 9 9 (told.Scan name_t 1 []) ∷ start_at 1 9 ∷ told_at 1 3 7 8 (told.Committed 1) ∷ start_at 1 7 ∷ one_inserted)
+  pub entry_told_twice : IsRefused one_script nine (table_told ∷ table_made)
+  pub statement_told_again : IsRefused one_script nine (told_at 1 1 2 2 (told.Table name_t) ∷ start_at 1 2 ∷ table_made)
+  pub record_of_nobody : IsLegal small one_script [] (prefix nine 7) table_made → ⊥
+  pub row_made_and_not_told : (moment : ℕ) → IsRunning small one_script [] (prefix nine 7) (start_at 1 2 ∷ table_made) moment → ⊥

@@ -2,6 +2,8 @@ pub mod Told
 pub mod Owned
 pub mod LegalLaw
 pub mod Marks
+pub mod Stopping
+pub mod Repairs
 pub mod Frames
 pub mod Scans
 pub mod Starts

@@ -1,12 +1,16 @@
 -- What passing over the first causes gives.
-use Rattle.std.proofs.Common.{◌≡◌, ℕ, true, not, ◌&&◌, ltb, List, refl, sym, ap, subst, true≢false}
+use Rattle.std.proofs.Common.{◌≡◌, ℕ, true, false, not, ◌&&◌, ltb, List, length, Some, refl, sym, ap, subst, le_refl, true≢false}
 use Rattle.seg_words.proofs.Lemmas.{and_parts}
 use Rattle.seg_words.specs.Types.{Shape}
 use Rattle.redo_model.specs.Records.{Record}
 use Rattle.redo_laws.proofs.lists.Prefixes.{prefix_longer}
-use Rattle.session_laws.specs.Sessions.{own_rows, own_begins}
+use Rattle.redo_laws.specs.Since.{any_since}
+use Rattle.redo_laws.proofs.lists.Since.{since_none}
+use Rattle.session_laws.specs.Sessions.{own_of, own_rows, own_begins}
+use Rattle.shrink_laws.specs.Grown.{lowers}
 use Rattle.script_text.specs.declared.statement.Statement.{Statement}
 use Rattle.script_text.specs.declared.statement.Statement.TheVariants as asked
+use Rattle.script_text.specs.declared.statement.Target.TheVariants.{Label}
 use Rattle.history_text.specs.declared.outcome.Outcome.TheVariants as told
 use Rattle.history_text.specs.declared.refusal.Refusal.{Refusal}
 use Rattle.history_text.specs.declared.refusal.Refusal.TheVariants as why
@@ -14,11 +18,13 @@ use Rattle.history_model.specs.declared.history.Kept.TheVariants as kept
 use Rattle.history_model.specs.History.{Task}
 use Rattle.history_model.specs.Spans.{Span}
 use Rattle.history_model.specs.Order.{rank, is_first_tested, is_no_bar, is_after_starts, is_again}
-use Rattle.history_model.specs.Causes.{IsTableThere, IsTooManyTables, IsMovementOff, IsTransactionOpen, IsShrunkBy, IsShrinkBusy, IsLogFull, IsNotDataBlock}
+use Rattle.history_model.specs.SoFar.{IsIdle, IsUnlowered, SoFar}
+use Rattle.history_model.specs.Causes.{IsTableThere, IsTooManyTables, IsMovementOff, IsTransactionOpen, IsShrunkBy, IsShrinkBusy, IsLogFull, IsNotDataBlock, Cause}
 use Rattle.history_model.specs.Passing.{FirstPass}
 use Rattle.history_model.specs.Means.{Keeps, blocks_read}
 use Rattle.history_model.proofs.Passing.{passes_first}
 use Rattle.history_laws.specs.Working.{now_of}
+use Rattle.history_laws.proofs.Owned.{none_some}
 use Rattle.history_laws.specs.Passes.{FirstPassStays, AcceptedPasses, FirstIsRefused}
 
 -- the same statement with other records at its end
@@ -96,8 +102,38 @@ first_keeps (why.TooOld a) e = absurd (true≢false (sym e))
 first_keeps (why.TooOldEntry u) e = absurd (true≢false (sym e))
 first_keeps y e = refl
 
+idle_at_once : (x : Span) → x.ended ≡ x.begun → IsIdle x
+idle_at_once x e = record { own = ap (λ (R : List Record). own_of R x.session) e; rows = ap (λ (R : List Record). own_rows R x.session) e; begins = ap (λ (R : List Record). own_begins R x.session) e }
+
+pub unlowered_at_once : (x : Span) (o : ℕ) → x.ended ≡ x.begun → IsUnlowered x o
+unlowered_at_once x o e = subst (λ (R : List Record). any_since (lowers o) (length x.begun) R ≡ false) (sym e) (since_none (lowers o) x.begun (length x.begun) (le_refl (length x.begun)))
+
+-- a rollback is refused for nothing
+never_refused : (sh : Shape) (x : Span) (y : Refusal) → is_first_tested y ≡ true → Cause sh x asked.Rollback 0 y → ⊥
+never_refused sh x why.NoTable e h = h
+never_refused sh x why.TableExists e h = h
+never_refused sh x why.TooManyTables e h = h
+never_refused sh x why.MovementOff e h = h
+never_refused sh x why.TransactionOpen e h = h
+never_refused sh x (why.ShrinkBusy v) e h = h
+never_refused sh x why.LogFull e h = h
+never_refused sh x (why.NotDataBlock b) e h = h
+never_refused sh x (why.BadValue v) e h = h
+never_refused sh x (why.Unbound l) e h = none_some (Label l) ⊥ h.0
+never_refused sh x y e h = true≢false (sym e)
+
+so_far_at_once : (sh : Shape) (x : Span) (st : Statement) (y : Refusal) → is_first_tested y ≡ true → Cause sh x st 0 y → x.ended ≡ x.begun → SoFar x (Some st)
+so_far_at_once sh x (asked.Insert name label text) y f c e = idle_at_once x e
+so_far_at_once sh x (asked.Update name target text) y f c e = idle_at_once x e
+so_far_at_once sh x (asked.Delete name target) y f c e = idle_at_once x e
+so_far_at_once sh x asked.Rollback y f c e = absurd (never_refused sh x y f c)
+so_far_at_once sh x (asked.Scan name) y f c e = idle_at_once x e
+so_far_at_once sh x (asked.Shrink name compact) y f c e = record { idle = idle_at_once x e; unlowered = λ o t. unlowered_at_once x o e }
+so_far_at_once sh x (asked.Repair name) y f c e = idle_at_once x e
+so_far_at_once sh x st y f c e = e
+
 pub first_is_refused : FirstIsRefused
 first_is_refused sh x st y e same cause none = record {
-  means = record { keeps = first_keeps y e; cause = cause; no_row = ap (λ (R : List Record). own_rows R x.session) same; not_begun = ap (λ (R : List Record). own_begins R x.session) same };
+  means = record { keeps = first_keeps y e; cause = cause; at_once = λ f. same; so_far = so_far_at_once sh x st y e cause same };
   passes = λ z b h. none z (and_parts (ltb (rank z) (rank y)) (not (is_no_bar z)) (and_parts (ltb (rank z) (rank y) && not (is_no_bar z)) (not (is_again y && is_after_starts z)) b).0).0 h;
 }

@@ -77,7 +77,7 @@ passes sh x st refusal f k (why.NeedsBlock len) b h = h
 
 pub no_row_is_refused : NoRowIsRefused
 no_row_is_refused sh x st n p c = record {
-  means = record { keeps = refl; cause = c; no_row = p.idle.rows; not_begun = p.idle.begins };
+  means = record { keeps = refl; cause = c; at_once = λ e. absurd (true≢false (sym e)); so_far = p.so_far };
   passes = passes sh x st (why.NoRow n) p.first (record {
     row = λ m b h. true≢false (sym b);
     busy = λ u b h. true≢false (sym b);
@@ -91,7 +91,7 @@ no_row_is_refused sh x st n p c = record {
 
 pub busy_is_refused : BusyIsRefused
 busy_is_refused sh x st u p c = record {
-  means = record { keeps = refl; cause = c; no_row = p.idle.rows; not_begun = p.idle.begins };
+  means = record { keeps = refl; cause = c; at_once = λ e. absurd (true≢false (sym e)); so_far = p.so_far };
   passes = passes sh x st (why.Busy u) p.first (record {
     row = λ m b h. row_there x st c.obj c.row c.was c.on c.there m h;
     busy = λ v b h. true≢false (sym b);
@@ -105,7 +105,7 @@ busy_is_refused sh x st u p c = record {
 
 pub again_is_refused : AgainIsRefused
 again_is_refused sh x st cs p c = record {
-  means = record { keeps = refl; cause = c; no_row = p.idle.rows; not_begun = p.idle.begins };
+  means = record { keeps = refl; cause = c; at_once = λ e. absurd (true≢false (sym e)); so_far = p.so_far };
   passes = passes sh x st (why.Again cs) p.first (record {
     row = λ m b h. true≢false (sym b);
     busy = λ v b h. true≢false (sym b);
@@ -119,7 +119,7 @@ again_is_refused sh x st cs p c = record {
 
 pub no_slot_is_refused : NoSlotIsRefused
 no_slot_is_refused sh x st ts p r c = record {
-  means = record { keeps = refl; cause = c; no_row = p.idle.rows; not_begun = p.idle.begins };
+  means = record { keeps = refl; cause = c; at_once = λ e. absurd (true≢false (sym e)); so_far = p.so_far };
   passes = passes sh x st (why.NoSlot ts) p.first (record {
     row = λ m b h. r.there m h;
     busy = λ v b h. r.free v h;
@@ -165,7 +165,7 @@ space_needed sh x st need n s h = h
 
 pub no_space_is_refused : NoSpaceIsRefused
 no_space_is_refused sh x st need p e c = record {
-  means = record { keeps = refl; cause = room_space sh x st need c; no_row = p.idle.rows; not_begun = p.idle.begins };
+  means = record { keeps = refl; cause = room_space sh x st need c; at_once = λ e. absurd (true≢false (sym e)); so_far = p.so_far };
   passes = passes sh x st (why.NoSpace need) p.first (record {
     row = λ m b h. e.row.there m h;
     busy = λ v b h. e.row.free v h;
@@ -179,7 +179,7 @@ no_space_is_refused sh x st need p e c = record {
 
 pub max_extents_is_refused : MaxExtentsIsRefused
 max_extents_is_refused sh x st count p e c = record {
-  means = record { keeps = refl; cause = c; no_row = p.idle.rows; not_begun = p.idle.begins };
+  means = record { keeps = refl; cause = c; at_once = λ e. absurd (true≢false (sym e)); so_far = p.so_far };
   passes = passes sh x st (why.MaxExtents count) p.first (record {
     row = λ m b h. e.row.there m h;
     busy = λ v b h. e.row.free v h;
@@ -199,7 +199,7 @@ max_extents_is_refused sh x st count p e c = record {
 
 pub undo_full_is_refused : UndoFullIsRefused
 undo_full_is_refused sh x st hs p e c = record {
-  means = record { keeps = refl; cause = c; no_row = p.idle.rows; not_begun = p.idle.begins };
+  means = record { keeps = refl; cause = c; at_once = λ e. absurd (true≢false (sym e)); so_far = p.so_far };
   passes = passes sh x st (why.UndoFull hs) p.first (record {
     row = λ m b h. e.entry.row.there m h;
     busy = λ v b h. e.entry.row.free v h;

@@ -6,6 +6,7 @@ use Rattle.redo_model.specs.Model.{prefix, Extent, extents_of, extent_at, is_vac
 use Rattle.redo_laws.proofs.lists.Prefixes.{prefix_all, prefix_more}
 use Rattle.shrink_laws.specs.Stops.{SkipsStand}
 use Rattle.history_model.specs.Spans.{Span}
+use Rattle.history_model.specs.Stopping.{AreSkippedAt}
 use Rattle.history_model.specs.ShrinkMeans.{move_count, StopIs, MovesMean, LastStays}
 use Rattle.history_laws.specs.Working.{StoppedWork, StoppedStands}
 use Rattle.history_laws.specs.Shrinks.{ShrinksStop, CompactsMean, LowersMean, StaysMean, LastExtentsStay}
@@ -22,14 +23,16 @@ shrinks_stop sh x name k stop s h =
       moves = h.moves;
       none_after = ap (λ (z : List Record). move_count z k.obj) now;
       skipped = subst (λ (z : List Record). SkipsStand x.begun z k.skips) now h.skipped;
+      skipped_at = subst (λ (z : List Record). AreSkippedAt sh x.begun z k.obj k.skips) now h.skipped_at;
+      unlowered = h.unlowered;
       stops = subst (λ (z : List Record). StopIs sh x.begun z k.obj k.skips stop) now s;
     }
 
 moves_mean : (sh : Shape) (x : Span) (name : List ℕ) (k : StoppedWork) → StoppedStands sh x name k → MovesMean sh x name k.moved (length k.skips) k.stop k.skips k.stopped k.obj
-moves_mean sh x name k h = record { table = h.table; from = h.from; to = h.to; moves = h.moves; none_after = h.none_after; count = refl; skipped_so = h.skipped; stops = h.stops }
+moves_mean sh x name k h = record { table = h.table; from = h.from; to = h.to; moves = h.moves; none_after = h.none_after; count = refl; skipped_so = h.skipped; skipped_at = h.skipped_at; stops = h.stops }
 
 pub compacts_mean : CompactsMean
-compacts_mean sh x name k h = record { obj = k.obj; moves = moves_mean sh x name k h }
+compacts_mean sh x name k h = record { obj = k.obj; moves = moves_mean sh x name k h; unlowered = h.unlowered }
 
 pub lowers_mean : LowersMean
 lowers_mean sh x name k l e h =
@@ -44,14 +47,15 @@ lowers_mean sh x name k l e h =
         none_after = h.none_after ∙ ap (λ (z : List Record). move_count z k.obj) at;
         count = refl;
         skipped_so = subst (λ (z : List Record). SkipsStand x.begun z k.skips) at h.skipped;
+        skipped_at = subst (λ (z : List Record). AreSkippedAt sh x.begun z k.obj k.skips) at h.skipped_at;
         stops = subst (λ (z : List Record). StopIs sh x.begun z k.obj k.skips k.stop) at h.stops;
       };
-      lowers = inl (record { before = x.ended; lower = l; table = e; count = refl; ends = refl });
+      lowered = inl (record { before = x.ended; lower = l; table = e; count = refl; ends = refl; only = h.unlowered });
       high_is = refl;
     }
 
 pub stays_mean : StaysMean
-stays_mean sh x name k s h = record { obj = k.obj; moves = moves_mean sh x name k h; lowers = inr (refl, s); high_is = refl }
+stays_mean sh x name k s h = record { obj = k.obj; moves = moves_mean sh x name k h; lowered = inr (record { none = refl; stays = s; unlowered = h.unlowered }); high_is = refl }
 
 -- the last of some extents, where all of them are kept
 

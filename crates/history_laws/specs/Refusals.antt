@@ -14,20 +14,20 @@ use Rattle.history_text.specs.declared.refusal.Refusal.{Refusal}
 use Rattle.history_text.specs.declared.refusal.Refusal.TheVariants as why
 use Rattle.history_model.specs.declared.history.Kept.TheVariants as kept
 use Rattle.history_model.specs.Spans.{Span, own_then}
+use Rattle.history_model.specs.SoFar.{SoFar}
 use Rattle.history_model.specs.Passing.{FirstPass}
 use Rattle.history_model.specs.Causes.{IsOnRow, row_seen, IsNoRow, IsRowBusy, IsAgain, must_change, IsEntryless, Seeks, NoBlockTakes, IsNoRoom, IsMaxExtents, IsNoUndo}
 use Rattle.history_model.specs.Means.{RefusalMeans, PassesOver}
-use Rattle.history_laws.specs.Working.{IsIdle}
 
 -- the refusal means its row and passes over what doesn't apply
 pub record IsRefusedSo (sh : Shape) (x : Span) (st : Statement) (refusal : Refusal) : Type 0 where
   pub means : RefusalMeans sh x st refusal kept.Nothing
   pub passes : PassesOver sh x (Some st) (told.Refused refusal) kept.Nothing
 
--- the statement came past its first tests, and its session has changed nothing since it began
+-- the statement came past its first tests, and is as it was before its last event
 pub record IsPending (sh : Shape) (x : Span) (st : Statement) : Type 0 where
   pub first : FirstPass sh x st
-  pub idle : IsIdle x
+  pub so_far : SoFar x (Some st)
 
 -- the row is there
 pub record IsThere (x : Span) (st : Statement) : Type 0 where

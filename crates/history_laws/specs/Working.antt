@@ -6,37 +6,31 @@ use Rattle.redo_model.specs.Records.{Record}
 use Rattle.redo_model.specs.Model.{Effect, prefix, commit_count, is_backed, table_named, HasMovement}
 use Rattle.redo_laws.specs.Scan.{scan_list, scanned}
 use Rattle.redo_laws.specs.Stays.{Later, IsNotOf}
-use Rattle.session_laws.specs.Sessions.{own_of, own_number, own_rows, own_begins}
+use Rattle.session_laws.specs.Sessions.{own_of, own_number}
 use Rattle.scan_laws.specs.Changes.{changed_between}
 use Rattle.shrink_laws.specs.declared.skip.Skip.{Skip}
 use Rattle.shrink_laws.specs.Stops.{SkipsStand}
 use Rattle.shrink_laws.specs.Cursor.{CursorStands}
 use Rattle.change_laws.specs.Looks.{WasFound}
+pub use Rattle.history_model.specs.Spans.{now_of}
+pub use Rattle.history_model.specs.SoFar.{IsIdle}
 use Rattle.script_text.specs.declared.statement.Statement.{Statement}
 use Rattle.script_text.specs.declared.statement.Statement.TheVariants as asked
 use Rattle.history_text.specs.declared.outcome.RowOut.{RowOut}
 use Rattle.history_text.specs.declared.outcome.Stop.{Stop}
 use Rattle.history_model.specs.declared.limit.TheConstants.{MOST_STARTS}
-use Rattle.history_model.specs.History.{Task}
+use Rattle.history_model.specs.declared.history.Settled.{Settled}
 use Rattle.history_model.specs.Spans.{Span}
+use Rattle.history_model.specs.SoFar.{IsUnlowered}
+use Rattle.history_model.specs.Stopping.{AreSkippedAt}
 use Rattle.history_model.specs.Released.{Gone, gone_by, or_else, first_gone}
 use Rattle.history_model.specs.Causes.{IsOnRow}
-use Rattle.history_model.specs.TableMeans.{row_out}
+use Rattle.history_model.specs.TableMeans.{row_out, AreSettled, count_changed}
 use Rattle.history_model.specs.ShrinkMeans.{move_count, StopIs}
 
--- the span of a statement under way
-abbrev pub now_of : List (List Statement) → List Record → ℕ → Task → Span
-now_of scripts R w task = record { session = w; scripts = scripts; past = task.past; begun = prefix R task.begins; ended = R }
-
--- with one more record
+-- a span with one more record
 abbrev pub grown : Span → Record → Span
 grown x r = record { session = x.session; scripts = x.scripts; past = x.past; begun = x.begun; ended = r ∷ x.ended }
-
--- the session has the transaction that it had, and has changed no row and begun none, since the statement began
-pub record IsIdle (x : Span) : Type 0 where
-  pub own : own_of x.ended x.session ≡ own_of x.begun x.session
-  pub rows : own_rows x.ended x.session ≡ own_rows x.begun x.session
-  pub begins : own_begins x.ended x.session ≡ own_begins x.begun x.session
 
 -- ---- an insert after movements of the marks
 
@@ -81,9 +75,10 @@ pub record RowStands (sh : Shape) (x : Span) (st : Statement) (k : RowWork) : Ty
 -- ---- a transaction that is taken back
 
 pub record BackStands (x : Span) (t : ℕ) : Type 0 where
-  pub own_then : own_of x.begun x.session ≡ Some t
+  pub own_begun : own_of x.begun x.session ≡ Some t
   pub own_now : own_of x.ended x.session ≡ Some t
   pub whole : is_backed x.begun t ≡ false
+  pub idle : IsIdle x
 
 -- ---- a scan
 
@@ -134,6 +129,8 @@ pub record ShrinkStands (sh : Shape) (x : Span) (name : List ℕ) (k : MoveWork)
   pub movement : HasMovement x.ended k.obj
   pub cursor : CursorStands sh x.begun x.ended k.obj k.skips k.cursor
   pub skipped : SkipsStand x.begun x.ended k.skips
+  pub skipped_at : AreSkippedAt sh x.begun x.ended k.obj k.skips
+  pub unlowered : IsUnlowered x k.obj
   pub moves : move_count x.ended k.obj ≡ move_count x.begun k.obj + k.moved
 
 -- one that has stopped, as there were so many records, and has yet to lower
@@ -153,7 +150,28 @@ pub record StoppedStands (sh : Shape) (x : Span) (name : List ℕ) (k : StoppedW
   pub moves : move_count x.ended k.obj ≡ move_count x.begun k.obj + k.moved
   pub none_after : move_count x.ended k.obj ≡ move_count (prefix x.ended k.stopped) k.obj
   pub skipped : SkipsStand x.begun (prefix x.ended k.stopped) k.skips
+  pub skipped_at : AreSkippedAt sh x.begun (prefix x.ended k.stopped) k.obj k.skips
+  pub unlowered : IsUnlowered x k.obj
   pub stops : StopIs sh x.begun (prefix x.ended k.stopped) k.obj k.skips k.stop
+
+-- ---- a repair
+
+-- its table, its list, how many blocks of it it has come past, which of them were settled, and how many of these got another class
+pub record RepairWork : Type 0 where
+  pub obj : ℕ
+  pub blocks : List ℕ
+  pub past : ℕ
+  pub settled : List Settled
+  pub changed : ℕ
+
+pub record RepairStands (sh : Shape) (x : Span) (name : List ℕ) (k : RepairWork) : Type 0 where
+  pub table : table_named x.begun name ≡ Some k.obj
+  pub list : k.blocks ≡ scan_list sh x.begun k.obj
+  pub within : k.past < length k.blocks
+  pub idle : IsIdle x
+  pub longer : length x.begun ≤ length x.ended
+  pub each : AreSettled sh x.begun x.ended k.obj (length x.begun) (take k.past (scan_list sh x.begun k.obj)) k.settled
+  pub count : k.changed ≡ count_changed x.ended k.settled
 
 -- ---- any of them
 
@@ -164,6 +182,7 @@ pub data Work : Type 0 where
   Scanning : OpenScan → Work
   Shrinking : MoveWork → Work
   Lowering : StoppedWork → Work
+  Repairing : RepairWork → Work
 
 -- the work that a statement is at, as it stands
 abbrev pub WorkStands : Shape → Span → Option Statement → Work → Type 0
@@ -175,6 +194,7 @@ WorkStands sh x None (TakingBack t) = BackStands x t
 WorkStands sh x (Some (asked.Scan name)) (Scanning s) = ScanStands sh x name s
 WorkStands sh x (Some (asked.Shrink name compact)) (Shrinking k) = ShrinkStands sh x name k
 WorkStands sh x (Some (asked.Shrink name false)) (Lowering k) = StoppedStands sh x name k
+WorkStands sh x (Some (asked.Repair name)) (Repairing k) = RepairStands sh x name k
 WorkStands sh x st k = ⊥
 
 -- a work after another session's record: a scan is marked, the others stay

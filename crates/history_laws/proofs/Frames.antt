@@ -1,5 +1,5 @@
 -- What a record of another session leaves of a session's work.
-use Rattle.std.proofs.Common.{◌≡◌, ℕ, ◌≤◌, true, false, cond, eqb, List, [], ◌∷◌, length, take, drop, Option, Some, None, refl, sym, ◌∙◌, ap, ap₂, subst, arith, le_trans, le_refl, le-ltb, true≢false, eqb-true, ne_eqb}
+use Rattle.std.proofs.Common.{◌≡◌, ℕ, ◌≤◌, true, false, cond, eqb, List, [], ◌∷◌, length, drop, Option, Some, None, refl, sym, ◌∙◌, ap, ap₂, subst, arith, le_trans, le_refl, le-ltb, true≢false, eqb-true, ne_eqb}
 use Rattle.std.specs.Prelude.{MatchOption}
 use Rattle.seg_words.proofs.Lemmas.{cond-false, or_right, and_parts}
 use Rattle.seg_words.specs.Types.{Shape}
@@ -27,11 +27,10 @@ use Rattle.history_model.specs.Stopping.{AreSkippedAt}
 use Rattle.history_model.specs.ShrinkMeans.{move_count, StopIs}
 use Rattle.redo_laws.specs.Scan.{scan_list}
 use Rattle.history_laws.specs.Events.{Goes, goes_none, goes_one}
-use Rattle.history_laws.specs.Working.{now_of, grown, IsIdle, InsertStands, FoundAt, RowWork, HasStarted, PlaceStands, RowStands, BackStands, OpenScan, ScanStands, marked_by, marked_since, MoveWork, ShrinkStands, StoppedWork, StoppedStands, RepairWork, RepairStands, Work, Inserting, OnRow, TakingBack, Scanning, Shrinking, Lowering, Repairing, WorkStands, work_after, work_since}
+use Rattle.history_laws.specs.Working.{now_of, grown, IsIdle, InsertStands, FoundAt, RowWork, HasStarted, PlaceStands, RowStands, BackStands, OpenScan, ScanStands, marked_by, marked_since, MoveWork, ShrinkStands, StoppedWork, StoppedStands, Work, Inserting, OnRow, TakingBack, Scanning, Shrinking, Lowering, WorkStands, work_after, work_since}
 use Rattle.history_laws.specs.Others.{Spares, SparesWork, RecordsLeaveWork, EventsLeaveWork, EventsLeaveTransactions}
 use Rattle.history_laws.proofs.LegalLaw.{adds_of}
 use Rattle.history_laws.proofs.Stopping.{skipped_at_more, unlowered_more}
-use Rattle.history_laws.proofs.Repairs.{settled_more, count_more}
 use Rattle.history_laws.proofs.Marks.{or_none, or_assoc, first_more, none_since}
 
 -- names
@@ -123,19 +122,6 @@ scan_more sh x r name s l h =
       gathered = h.gathered;
     }
 
--- a repair
-
-repair_more : (sh : Shape) (x : Span) (r : Record) (name : List ℕ) (k : RepairWork) → Leaves x.ended r x.session → RepairStands sh x name k → RepairStands sh (grown x r) name k
-repair_more sh x r name k l h = record {
-  table = h.table;
-  list = h.list;
-  within = h.within;
-  idle = idle_more x r l h.idle;
-  longer = (let l : length x.begun ≤ length x.ended = h.longer in omega (arith, l));
-  each = settled_more sh x.begun x.ended k.obj r (length x.begun) (take k.past (scan_list sh x.begun k.obj)) k.settled h.each;
-  count = h.count ∙ sym (count_more sh x.begun x.ended k.obj r (length x.begun) (take k.past (scan_list sh x.begun k.obj)) k.settled h.each);
-}
-
 -- a shrink, by a record that spares its table
 
 no_lower : (r : Record) (o : ℕ) → Spares r o → lowers o r ≡ false
@@ -191,7 +177,6 @@ work_more sh x None (TakingBack t) r a l p h = back_more x r t l h
 work_more sh x (Some (asked.Scan name)) (Scanning s) r a l p h = scan_more sh x r name s l h
 work_more sh x (Some (asked.Shrink name compact)) (Shrinking k) r a l p h = shrink_more sh x r name k a l p h
 work_more sh x (Some (asked.Shrink name false)) (Lowering k) r a l p h = stopped_more sh x r name k a l p h
-work_more sh x (Some (asked.Repair name)) (Repairing k) r a l p h = repair_more sh x r name k l h
 work_more sh x st k r a l p h = absurd h
 
 pub records_leave_work : RecordsLeaveWork
@@ -223,7 +208,6 @@ work_unmarked sh Q (OnRow k) = refl
 work_unmarked sh Q (TakingBack t) = refl
 work_unmarked sh Q (Shrinking k) = refl
 work_unmarked sh Q (Lowering k) = refl
-work_unmarked sh Q (Repairing k) = refl
 
 work_marked : (sh : Shape) (n : ℕ) (R : List Record) (r : Record) (k : Work) → n ≤ length R → work_after sh r (work_since sh n R k) ≡ work_since sh n (r ∷ R) k
 work_marked sh n R r (Scanning s) l = ap (λ (z : OpenScan). Scanning z) (scan_marked sh n R r s l)
@@ -232,7 +216,6 @@ work_marked sh n R r (OnRow k) l = refl
 work_marked sh n R r (TakingBack t) l = refl
 work_marked sh n R r (Shrinking k) l = refl
 work_marked sh n R r (Lowering k) l = refl
-work_marked sh n R r (Repairing k) l = refl
 
 work_spared : (sh : Shape) (n : ℕ) (R : List Record) (k : Work) (r : Record) → SparesWork k r → SparesWork (work_since sh n R k) r
 work_spared sh n R (Scanning s) r h = tt
@@ -241,7 +224,6 @@ work_spared sh n R (OnRow k) r h = tt
 work_spared sh n R (TakingBack t) r h = tt
 work_spared sh n R (Shrinking k) r h = h
 work_spared sh n R (Lowering k) r h = h
-work_spared sh n R (Repairing k) r h = tt
 
 now_more : (scripts : List (List Statement)) (R : List Record) (r : Record) (w : ℕ) (task : Task) → task.begins ≤ length R → grown (now_of scripts R w task) r ≡ now_of scripts (r ∷ R) w task
 now_more scripts R r w task l = ap (λ (B : List Record). span scripts R r w task B) (sym (prefix_more R r task.begins l))

@@ -3,7 +3,6 @@ pub mod Owned
 pub mod LegalLaw
 pub mod Marks
 pub mod Stopping
-pub mod Repairs
 pub mod Frames
 pub mod Scans
 pub mod Starts

@@ -2,7 +2,6 @@
 use Rattle.std.proofs.Common.{◌≡◌, ℕ, ◌≤◌, false, ◌||◌, List, [], ◌∷◌, length, sym, ◌∙◌, ap₂, subst}
 use Rattle.seg_words.specs.Types.{Shape}
 use Rattle.redo_model.specs.Records.{Record}
-use Rattle.redo_model.specs.Model.{prefix}
 use Rattle.redo_laws.proofs.lists.Prefixes.{prefix_more}
 use Rattle.redo_laws.proofs.lists.Since.{since_more}
 use Rattle.shrink_laws.specs.declared.skip.Skip.{Skip}

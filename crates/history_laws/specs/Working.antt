@@ -19,13 +19,12 @@ use Rattle.script_text.specs.declared.statement.Statement.TheVariants as asked
 use Rattle.history_text.specs.declared.outcome.RowOut.{RowOut}
 use Rattle.history_text.specs.declared.outcome.Stop.{Stop}
 use Rattle.history_model.specs.declared.limit.TheConstants.{MOST_STARTS}
-use Rattle.history_model.specs.declared.history.Settled.{Settled}
 use Rattle.history_model.specs.Spans.{Span}
 use Rattle.history_model.specs.SoFar.{IsUnlowered}
 use Rattle.history_model.specs.Stopping.{AreSkippedAt}
 use Rattle.history_model.specs.Released.{Gone, gone_by, or_else, first_gone}
 use Rattle.history_model.specs.Causes.{IsOnRow}
-use Rattle.history_model.specs.TableMeans.{row_out, AreSettled, count_changed}
+use Rattle.history_model.specs.TableMeans.{row_out}
 use Rattle.history_model.specs.ShrinkMeans.{move_count, StopIs}
 
 -- a span with one more record
@@ -154,25 +153,6 @@ pub record StoppedStands (sh : Shape) (x : Span) (name : List ℕ) (k : StoppedW
   pub unlowered : IsUnlowered x k.obj
   pub stops : StopIs sh x.begun (prefix x.ended k.stopped) k.obj k.skips k.stop
 
--- ---- a repair
-
--- its table, its list, how many blocks of it it has come past, which of them were settled, and how many of these got another class
-pub record RepairWork : Type 0 where
-  pub obj : ℕ
-  pub blocks : List ℕ
-  pub past : ℕ
-  pub settled : List Settled
-  pub changed : ℕ
-
-pub record RepairStands (sh : Shape) (x : Span) (name : List ℕ) (k : RepairWork) : Type 0 where
-  pub table : table_named x.begun name ≡ Some k.obj
-  pub list : k.blocks ≡ scan_list sh x.begun k.obj
-  pub within : k.past < length k.blocks
-  pub idle : IsIdle x
-  pub longer : length x.begun ≤ length x.ended
-  pub each : AreSettled sh x.begun x.ended k.obj (length x.begun) (take k.past (scan_list sh x.begun k.obj)) k.settled
-  pub count : k.changed ≡ count_changed x.ended k.settled
-
 -- ---- any of them
 
 pub data Work : Type 0 where
@@ -182,7 +162,6 @@ pub data Work : Type 0 where
   Scanning : OpenScan → Work
   Shrinking : MoveWork → Work
   Lowering : StoppedWork → Work
-  Repairing : RepairWork → Work
 
 -- the work that a statement is at, as it stands
 abbrev pub WorkStands : Shape → Span → Option Statement → Work → Type 0
@@ -194,7 +173,6 @@ WorkStands sh x None (TakingBack t) = BackStands x t
 WorkStands sh x (Some (asked.Scan name)) (Scanning s) = ScanStands sh x name s
 WorkStands sh x (Some (asked.Shrink name compact)) (Shrinking k) = ShrinkStands sh x name k
 WorkStands sh x (Some (asked.Shrink name false)) (Lowering k) = StoppedStands sh x name k
-WorkStands sh x (Some (asked.Repair name)) (Repairing k) = RepairStands sh x name k
 WorkStands sh x st k = ⊥
 
 -- a work after another session's record: a scan is marked, the others stay

@@ -8,6 +8,9 @@ pub mod Scans
 pub mod Starts
 pub mod RefusedLaw
 pub mod Shrinks
+pub mod Shrinking
 pub mod Telling
 pub mod Passes
+pub mod ScanRefusals
+pub mod Ways
 pub mod Answered

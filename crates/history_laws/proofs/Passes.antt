@@ -102,7 +102,7 @@ first_keeps (why.TooOld a) e = absurd (true≢false (sym e))
 first_keeps (why.TooOldEntry u) e = absurd (true≢false (sym e))
 first_keeps y e = refl
 
-idle_at_once : (x : Span) → x.ended ≡ x.begun → IsIdle x
+pub idle_at_once : (x : Span) → x.ended ≡ x.begun → IsIdle x
 idle_at_once x e = record { own = ap (λ (R : List Record). own_of R x.session) e; rows = ap (λ (R : List Record). own_rows R x.session) e; begins = ap (λ (R : List Record). own_begins R x.session) e }
 
 pub unlowered_at_once : (x : Span) (o : ℕ) → x.ended ≡ x.begun → IsUnlowered x o

@@ -21,7 +21,7 @@ use Rattle.history_model.specs.Order.{rank, is_no_bar, is_after_starts, is_again
 use Rattle.history_model.specs.Passing.{FirstPass}
 use Rattle.history_model.specs.Causes.{IsOnRow, row_seen, IsNoRow, IsRowBusy, must_change, IsEntryless, Seeks, sought_for, own_blocks, IsNoSpace, IsNoRoom, IsMaxExtents, Needs, IsNoUndo, IsObjectGone, Cause}
 use Rattle.history_model.proofs.Targets.{same_some, one_obj, one_row}
-use Rattle.history_laws.specs.Refusals.{NoRowIsRefused, BusyIsRefused, AgainIsRefused, NoSlotIsRefused, NoSpaceIsRefused, MaxExtentsIsRefused, UndoFullIsRefused, InsertsPass, WritesPass, EntriesPass, FoundPass}
+use Rattle.history_laws.specs.Refusals.{NoRowIsRefused, BusyIsRefused, AgainIsRefused, NoSlotIsRefused, NoSpaceIsRefused, NoExtentIsRefused, MaxExtentsIsRefused, UndoFullIsRefused, InsertsPass, WritesPass, EntriesPass, FoundPass}
 use Rattle.history_laws.proofs.Frames.{zero_is}
 
 -- the row of a statement is seen in one way
@@ -35,7 +35,7 @@ row_there : (x : Span) (st : Statement) (o n : ℕ) (was : List ℕ) → IsOnRow
 row_there x st o n was on e m h = not_none was (row_seen x h.obj m) (seen_once x st o n h.obj m (Some was) on h.on e) h.none
 
 -- a refusal that comes only where it holds bars none
-never_bars : (y refusal : Refusal) → is_no_bar y ≡ true → bars y refusal ≡ true → ⊥
+pub never_bars : (y refusal : Refusal) → is_no_bar y ≡ true → bars y refusal ≡ true → ⊥
 never_bars y refusal n b =
     let p = and_parts (ltb (rank y) (rank refusal) && not (is_no_bar y)) (not (is_again refusal && is_after_starts y)) b in
     true≢false (sym (and_parts (ltb (rank y) (rank refusal)) (not (is_no_bar y)) p.0).1 ∙ ap not n)
@@ -176,6 +176,23 @@ no_space_is_refused sh x st need p e c = record {
     gone = λ i l b h. true≢false (sym b);
   });
 }
+
+pub no_extent_is_refused : NoExtentIsRefused
+no_extent_is_refused sh x name pctfree p e = record {
+  means = record { keeps = refl; cause = (refl, e); at_once = λ e. absurd (true≢false (sym e)); so_far = p.so_far };
+  passes = passes sh x (asked.Table name pctfree) (why.NoSpace 0) p.first (record {
+    row = λ m b h. table_target h.obj m h.on;
+    busy = λ v b h. table_target h.obj h.row h.on;
+    entries = λ us b h. table_target h.obj h.row h.on;
+    space = λ n b h. true≢false (sym b);
+    extents = λ count b h. true≢false (sym b);
+    undo = λ hs b h. true≢false (sym b);
+    gone = λ i l b h. true≢false (sym b);
+  });
+}
+  where
+    table_target : (o n : ℕ) → IsOnRow x (asked.Table name pctfree) o n → ⊥
+    table_target o n h = (let z : ◌≡◌ {A = Option Target} None (Some h.target) = h.targeted in cc)
 
 pub max_extents_is_refused : MaxExtentsIsRefused
 max_extents_is_refused sh x st count p e c = record {

@@ -9,3 +9,5 @@ pub mod Shrinks
 pub mod Telling
 pub mod Passes
 pub mod Answered
+pub mod ScanRefusals
+pub mod Ways

@@ -16,7 +16,7 @@ use Rattle.history_model.specs.declared.history.Kept.TheVariants as kept
 use Rattle.history_model.specs.Spans.{Span, own_then}
 use Rattle.history_model.specs.SoFar.{SoFar}
 use Rattle.history_model.specs.Passing.{FirstPass}
-use Rattle.history_model.specs.Causes.{IsOnRow, row_seen, IsNoRow, IsRowBusy, IsAgain, must_change, IsEntryless, Seeks, NoBlockTakes, IsNoRoom, IsMaxExtents, IsNoUndo}
+use Rattle.history_model.specs.Causes.{IsOnRow, row_seen, IsNoRow, IsRowBusy, IsAgain, must_change, IsEntryless, Seeks, NoBlockTakes, NoFreeExtent, IsNoRoom, IsMaxExtents, IsNoUndo}
 use Rattle.history_model.specs.Means.{RefusalMeans, PassesOver}
 
 -- the refusal means its row and passes over what doesn't apply
@@ -73,6 +73,10 @@ MaxExtentsIsRefused = (sh : Shape) (x : Span) (st : Statement) (count : ℕ) →
 
 abbrev pub UndoFullIsRefused : Type 0
 UndoFullIsRefused = (sh : Shape) (x : Span) (st : Statement) (hs : List (ℕ × ℕ)) → IsPending sh x st → BlockPass sh x st → IsNoUndo sh x st hs → IsRefusedSo sh x st (why.UndoFull hs)
+
+-- a new table finds no free extent
+abbrev pub NoExtentIsRefused : Type 0
+NoExtentIsRefused = (sh : Shape) (x : Span) (name : List ℕ) (pctfree : ℕ) → IsPending sh x (asked.Table name pctfree) → NoFreeExtent sh x.ended → IsRefusedSo sh x (asked.Table name pctfree) (why.NoSpace 0)
 
 -- what a row that may be changed passes
 

@@ -31,6 +31,10 @@ use Rattle.history_model.specs.ShrinkMeans.{move_count, StopIs}
 abbrev pub grown : Span → Record → Span
 grown x r = record { session = x.session; scripts = x.scripts; past = x.past; begun = x.begun; ended = r ∷ x.ended }
 
+-- with these at its end
+abbrev pub later : Span → List Record → Span
+later x R = record { session = x.session; scripts = x.scripts; past = x.past; begun = x.begun; ended = R }
+
 -- ---- an insert after movements of the marks
 
 pub record InsertStands (x : Span) (name : List ℕ) (o : ℕ) : Type 0 where

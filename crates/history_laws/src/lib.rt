@@ -6,10 +6,12 @@ ghost use Rattle.history_laws.specs.Answered.{BusyAnswers, NeedsSeek, SpentDelet
 ghost use Rattle.history_laws.specs.Keeping.{EntriesAreLegal, EntriesStay, OwnersAreOne, RecordsAreLegal, RecordsBelong, StartsAreLegal, WaysAreKnown};
 ghost use Rattle.history_laws.specs.Others.{EventsLeaveTransactions, EventsLeaveWork, RecordsLeaveWork};
 ghost use Rattle.history_laws.specs.Passes.{AcceptedPasses, FirstIsRefused, FirstPassStays};
-ghost use Rattle.history_laws.specs.Refusals.{AgainIsRefused, BusyIsRefused, EntriesPass, FoundPass, InsertsPass, MaxExtentsIsRefused, NoRowIsRefused, NoSlotIsRefused, NoSpaceIsRefused, UndoFullIsRefused, WritesPass};
-ghost use Rattle.history_laws.specs.Shrinks.{CompactsMean, LastExtentsStay, LowersMean, ShrinksStop, StaysMean};
+ghost use Rattle.history_laws.specs.Refusals.{AgainIsRefused, BusyIsRefused, EntriesPass, FoundPass, InsertsPass, MaxExtentsIsRefused, NoExtentIsRefused, NoRowIsRefused, NoSlotIsRefused, NoSpaceIsRefused, UndoFullIsRefused, WritesPass};
+ghost use Rattle.history_laws.specs.ScanRefusals.{LostAreRefused, MarkedAreRefused, UnknownAreRefused};
+ghost use Rattle.history_laws.specs.Shrinks.{CompactsMean, CursorsCome, CursorsPass, CursorsStop, LastExtentsStay, LowersMean, ShrinksAreSpent, ShrinksBegin, ShrinksMove, ShrinksSkip, ShrinksStop, StaysMean, StopsAreRight};
 ghost use Rattle.history_laws.specs.Starts.{StartsEnd, StartsGoOn};
 ghost use Rattle.history_laws.specs.Telling.{EntriesKeep, OthersAreTold, OwnIsTold, SpansBegin, StartsKeep};
+ghost use Rattle.history_laws.specs.Ways.{EventsKeep, RunsEnd, WorksGoOn};
 ghost use Rattle.history_laws.specs.Scans.{EmptyScansMean, MarksMean, ScansMean, ScansOpen, ScansRead};
 
 /// What each start and each entry says of some records it says of every list that begins with them, whatever was added: so an
@@ -241,4 +243,79 @@ pub fn spent_updates()
 /// So it is for that of a delete.
 pub fn spent_deletes()
     ensures { SpentDeletes }
+{}
+
+/// No extent is free for a new table.
+pub fn no_extent_is_refused()
+    ensures { NoExtentIsRefused }
+{}
+
+/// A marked scan is refused with its mark.
+pub fn marked_are_refused()
+    ensures { MarkedAreRefused }
+{}
+
+/// A scan that isn't is refused where its next block needs undo that was reused.
+pub fn lost_are_refused()
+    ensures { LostAreRefused }
+{}
+
+/// Or where its next block reaches an image of a forgotten transaction.
+pub fn unknown_are_refused()
+    ensures { UnknownAreRefused }
+{}
+
+/// A shrink begins with its cursor at the last formatted position.
+pub fn shrinks_begin()
+    ensures { ShrinksBegin }
+{}
+
+/// A slot that it skips is told at its place.
+pub fn shrinks_skip()
+    ensures { ShrinksSkip }
+{}
+
+/// A row that it moves is counted.
+pub fn shrinks_move()
+    ensures { ShrinksMove }
+{}
+
+/// Where its cursor comes to a slot, all above was passed.
+pub fn cursors_come()
+    ensures { CursorsCome }
+{}
+
+/// It stops where the row that it has come to fits nowhere below.
+pub fn cursors_stop()
+    ensures { CursorsStop }
+{}
+
+/// Or where nothing is left down to the first position.
+pub fn cursors_pass()
+    ensures { CursorsPass }
+{}
+
+/// Each such stop is a right one.
+pub fn stops_are_right()
+    ensures { StopsAreRight }
+{}
+
+/// Undo that is full for the next move refuses the shrink.
+pub fn shrinks_are_spent()
+    ensures { ShrinksAreSpent }
+{}
+
+/// A statement at work is on its way.
+pub fn works_go_on()
+    ensures { WorksGoOn }
+{}
+
+/// A run whose sessions have ended is at its end.
+pub fn runs_end()
+    ensures { RunsEnd }
+{}
+
+/// An event keeps the history legal and its moments in order.
+pub fn events_keep()
+    ensures { EventsKeep }
 {}

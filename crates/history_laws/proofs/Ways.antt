@@ -1,0 +1,67 @@
+-- A run between its events, and what an event keeps.
+use Rattle.std.proofs.Common.{◌≡◌, ℕ, ◌≤◌, Bool, true, false, List, [], ◌∷◌, Option, Some, None, refl, sym, ◌∙◌, subst, le_trans, le_refl}
+use Rattle.seg_words.specs.Types.{Shape}
+use Rattle.redo_model.specs.Records.{Record}
+use Rattle.redo_model.specs.Model.{is_active}
+use Rattle.session_laws.proofs.OwnersLaw.{sessions_own_transactions}
+use Rattle.script_text.specs.declared.statement.Statement.{Statement}
+use Rattle.script_text.specs.declared.statement.Statement.TheVariants as asked
+use Rattle.history_model.specs.declared.history.HistoryItem.{HistoryItem}
+use Rattle.history_model.specs.declared.history.HistoryItem.TheVariants as item
+use Rattle.history_model.specs.History.{AreInTime}
+use Rattle.history_model.specs.SoFar.{IsUnlowered}
+use Rattle.history_model.specs.Legal.{IsLegal}
+use Rattle.history_laws.specs.Working.{Work, Inserting, OnRow, TakingBack, Scanning, Shrinking, Lowering}
+use Rattle.history_laws.specs.Ways.{WorksGoOn, RunsEnd, Starts, starts_none, starts_one, Ends, ends_none, ends_one, EventsKeep}
+use Rattle.history_laws.proofs.Owned.{none_some, same_some}
+use Rattle.history_laws.proofs.LegalLaw.{records_are_legal}
+use Rattle.history_laws.proofs.Telling.{starts_keep, entries_keep}
+
+pub works_go_on : WorksGoOn
+works_go_on sh x (Some (asked.Insert name label text)) (Inserting o) f h = record { more = refl; first = f; so_far = h.idle }
+works_go_on sh x (Some (asked.Update name target text)) (OnRow k) f h = record { more = refl; first = f; so_far = h.idle }
+works_go_on sh x (Some (asked.Delete name target)) (OnRow k) f h = record { more = refl; first = f; so_far = h.idle }
+works_go_on sh x (Some asked.Rollback) (TakingBack t) f h = record { more = refl; first = f; so_far = record { txn = t; own_begun = h.own_begun; whole = h.whole; idle = h.idle } }
+works_go_on sh x None (TakingBack t) f h = record { more = refl; first = f; so_far = record { txn = t; own_begun = h.own_begun; whole = h.whole; idle = h.idle } }
+works_go_on sh x (Some (asked.Scan name)) (Scanning s) f h = record { more = refl; first = f; so_far = h.idle }
+works_go_on sh x (Some (asked.Shrink name compact)) (Shrinking k) f h = record { more = refl; first = f; so_far = record { idle = h.idle; unlowered = λ o e. subst (λ z. IsUnlowered x z) (same_some k.obj o (sym h.table ∙ e)) h.unlowered } }
+works_go_on sh x (Some (asked.Shrink name false)) (Lowering k) f h = record { more = refl; first = f; so_far = record { idle = h.idle; unlowered = λ o e. subst (λ z. IsUnlowered x z) (same_some k.obj o (sym h.table ∙ e)) h.unlowered } }
+works_go_on sh x st k f h = absurd h
+
+pub runs_end : RunsEnd
+runs_end sh scripts R0 R T moment h over none = record { running = h; over = over; none_active = λ t. quiet t (is_active R t) refl }
+  where
+    quiet : (t : ℕ) (v : Bool) → is_active R t ≡ v → v ≡ false
+    quiet t false e = refl
+    quiet t true e =
+        let s = (sessions_own_transactions sh R h.legal.lawful.allowed).whose t e in
+        none_some t (true ≡ false) (sym (none s.session (h.known s.session t s.own)) ∙ s.own)
+
+-- moments
+
+time_later : (m n : ℕ) (T : List HistoryItem) → m ≤ n → AreInTime m T → AreInTime n T
+time_later m n [] l h = tt
+time_later m n (item.Started s ∷ T) l h = time_later m n T l h
+time_later m n (item.Told e k ∷ T) l h = (le_trans h.0 l, h.1)
+
+start_legal : (sh : Shape) (scripts : List (List Statement)) (R0 Q : List Record) (w : ℕ) (T U : List HistoryItem) → Starts scripts Q w T U → IsLegal sh scripts R0 Q T → IsLegal sh scripts R0 Q U
+start_legal sh scripts R0 Q w T U starts_none h = h
+start_legal sh scripts R0 Q w T U (starts_one m) h = starts_keep sh scripts R0 Q T w m h
+
+start_time : (scripts : List (List Statement)) (Q : List Record) (w m : ℕ) (T U : List HistoryItem) → Starts scripts Q w T U → AreInTime m T → AreInTime m U
+start_time scripts Q w m T U starts_none h = h
+start_time scripts Q w m T U (starts_one s) h = h
+
+end_legal : (sh : Shape) (scripts : List (List Statement)) (R0 R : List Record) (w : ℕ) (was : Option Work) (now : ℕ) (T U : List HistoryItem) → Ends sh scripts R w was now T U → IsLegal sh scripts R0 R T → IsLegal sh scripts R0 R U
+end_legal sh scripts R0 R w was now T U ends_none h = h
+end_legal sh scripts R0 R w was now T U (ends_one task outcome k m r) h = entries_keep sh scripts R0 R T w task now outcome k m h
+
+end_time : (sh : Shape) (scripts : List (List Statement)) (R : List Record) (w : ℕ) (was : Option Work) (now : ℕ) (T U : List HistoryItem) → Ends sh scripts R w was now T U → AreInTime now T → AreInTime now U
+end_time sh scripts R w was now T U ends_none h = h
+end_time sh scripts R w was now T U (ends_one task outcome k m r) h = (le_refl now, h)
+
+pub events_keep : EventsKeep
+events_keep sh scripts w was before now R0 Q R T U a l e h t = record {
+  legal = end_legal sh scripts R0 R w was now e.begun U e.ends (records_are_legal sh scripts R0 Q R e.begun w a e.goes (start_legal sh scripts R0 Q w T e.begun e.starts h));
+  in_time = end_time sh scripts R w was now e.begun U e.ends (start_time scripts Q w now T e.begun e.starts (time_later before now T l t));
+}

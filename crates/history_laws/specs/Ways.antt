@@ -1,0 +1,68 @@
+-- A run between its events, and one event of it, as a world of sessions promises them. This engine's own.
+use Rattle.std.specs.Prelude.{◌≡◌, ℕ, ◌≤◌, List, ◌∷◌, MatchOption, Option, Some, None}
+use Rattle.seg_words.specs.Types.{Shape}
+use Rattle.redo_model.specs.Records.{Record}
+use Rattle.redo_model.specs.Model.{IsLawful}
+use Rattle.session_laws.specs.Sessions.{own_of}
+use Rattle.script_text.specs.declared.statement.Statement.{Statement}
+use Rattle.history_text.specs.declared.outcome.Outcome.{Outcome}
+use Rattle.history_model.specs.declared.history.Kept.{Kept}
+use Rattle.history_model.specs.declared.history.Kept.TheVariants as kept
+use Rattle.history_model.specs.declared.history.HistoryItem.{HistoryItem}
+use Rattle.history_model.specs.declared.history.HistoryItem.TheVariants as item
+use Rattle.history_model.specs.History.{Task, IsSession, AreInTime, IsOver}
+use Rattle.history_model.specs.Spans.{Span}
+use Rattle.history_model.specs.Passing.{FirstPass}
+use Rattle.history_model.specs.Legal.{IsLegal}
+use Rattle.history_model.specs.Running.{IsOnItsWay, IsRunning, IsAtEnd}
+use Rattle.history_laws.specs.Working.{Work, Scanning, WorkStands}
+use Rattle.history_laws.specs.Events.{Goes}
+use Rattle.history_laws.specs.Telling.{start_now, entry_now, MayStart, MayEnd}
+
+-- ---- between events
+
+-- a statement that came past its first tests and is at some work is on its way
+abbrev pub WorksGoOn : Type 0
+WorksGoOn = (sh : Shape) (x : Span) (st : Option Statement) (k : Work) → MatchOption st (Unit {0}) (λ s. FirstPass sh x s) → WorkStands sh x st k → IsOnItsWay sh x st
+
+-- a run is at its end where all is told, nothing is under way, and no session has a transaction
+abbrev pub RunsEnd : Type 0
+RunsEnd =
+    (sh : Shape) (scripts : List (List Statement)) (R0 R : List Record) (T : List HistoryItem) (moment : ℕ) → IsRunning sh scripts R0 R T moment → IsOver scripts T → ((w : ℕ) → IsSession scripts w → own_of R w ≡ None)
+    → IsAtEnd sh scripts R0 R T moment
+
+-- ---- one event of session w
+
+-- a statement may start: it begins after just the records that are there
+pub data Starts (scripts : List (List Statement)) (Q : List Record) (w : ℕ) (T : List HistoryItem) : List HistoryItem → Type 0 where
+  starts_none : Starts scripts Q w T T
+  starts_one : MayStart scripts Q T w → Starts scripts Q w T (item.Started (start_now Q w) ∷ T)
+
+-- what a refused scan keeps is how many blocks it had read
+abbrev pub KeepsRead : Option Work → Kept → Type 0
+KeepsRead (Some (Scanning s)) (kept.Read blocks) = blocks ≡ s.read
+KeepsRead was (kept.Read blocks) = ⊥
+KeepsRead was k = Unit {0}
+
+-- the statement under way may end: it ends after just the records that are there, at this moment of the disk's clock
+pub data Ends (sh : Shape) (scripts : List (List Statement)) (R : List Record) (w : ℕ) (was : Option Work) (now : ℕ) (T : List HistoryItem) : List HistoryItem → Type 0 where
+  ends_none : Ends sh scripts R w was now T T
+  ends_one : (task : Task) (outcome : Outcome) (k : Kept) → MayEnd sh scripts R T w task outcome k → KeepsRead was k → Ends sh scripts R w was now T (item.Told (entry_now scripts R w task now outcome) k ∷ T)
+
+-- From the records Q and the history T an event leads to R and U: perhaps a start, then records that the session may add, then
+-- perhaps an entry. An event that fails adds records alone, or none.
+pub record IsEvent (sh : Shape) (scripts : List (List Statement)) (w : ℕ) (was : Option Work) (now : ℕ) (Q : List Record) (T : List HistoryItem) (R : List Record) (U : List HistoryItem) : Type 0 where
+  pub begun : List HistoryItem
+  pub starts : Starts scripts Q w T begun
+  pub goes : Goes sh scripts begun w Q R
+  pub ends : Ends sh scripts R w was now begun U
+
+-- it keeps the history legal, and its moments in order
+pub record EventKeeps (sh : Shape) (scripts : List (List Statement)) (R0 R : List Record) (U : List HistoryItem) (now : ℕ) : Type 0 where
+  pub legal : IsLegal sh scripts R0 R U
+  pub in_time : AreInTime now U
+
+abbrev pub EventsKeep : Type 0
+EventsKeep =
+    (sh : Shape) (scripts : List (List Statement)) (w : ℕ) (was : Option Work) (before now : ℕ) (R0 Q R : List Record) (T U : List HistoryItem) → IsLawful sh R → before ≤ now → IsEvent sh scripts w was now Q T R U → IsLegal sh scripts R0 Q T
+    → AreInTime before T → EventKeeps sh scripts R0 R U now

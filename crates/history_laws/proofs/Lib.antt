@@ -13,4 +13,6 @@ pub mod Telling
 pub mod Passes
 pub mod ScanRefusals
 pub mod Ways
+pub mod Changing
+pub mod Acting
 pub mod Answered

@@ -11,3 +11,5 @@ pub mod Passes
 pub mod Answered
 pub mod ScanRefusals
 pub mod Ways
+pub mod Changing
+pub mod Acting

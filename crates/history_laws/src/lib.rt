@@ -2,7 +2,9 @@
 //! and what a scan gathers while they go on. Each is the contract of a function that does nothing.
 #![tactic(auto)]
 
+ghost use Rattle.history_laws.specs.Acting.{BacksBegin, BacksEnd, BacksGo, InsertsMove, MarksLeaveWork, RowsAreFound, RowsBegin, UpdatesMove};
 ghost use Rattle.history_laws.specs.Answered.{BusyAnswers, NeedsSeek, SpentDeletes, SpentUpdates, TakenAnswers};
+ghost use Rattle.history_laws.specs.Changing.{DeletesTell, InsertsTell, UpdatesTell};
 ghost use Rattle.history_laws.specs.Keeping.{EntriesAreLegal, EntriesStay, OwnersAreOne, RecordsAreLegal, RecordsBelong, StartsAreLegal, WaysAreKnown};
 ghost use Rattle.history_laws.specs.Others.{EventsLeaveTransactions, EventsLeaveWork, RecordsLeaveWork};
 ghost use Rattle.history_laws.specs.Passes.{AcceptedPasses, FirstIsRefused, FirstPassStays};
@@ -318,4 +320,59 @@ pub fn runs_end()
 /// An event keeps the history legal and its moments in order.
 pub fn events_keep()
     ensures { EventsKeep }
+{}
+
+/// An insert that is made adds its Begin, a Reuse and its row, and tells it.
+pub fn inserts_tell()
+    ensures { InsertsTell }
+{}
+
+/// So does an update, by whichever way it goes.
+pub fn updates_tell()
+    ensures { UpdatesTell }
+{}
+
+/// And a delete.
+pub fn deletes_tell()
+    ensures { DeletesTell }
+{}
+
+/// An insert makes the movement of the marks that its search gives.
+pub fn inserts_move()
+    ensures { InsertsMove }
+{}
+
+/// So does an update of a row that goes to another block.
+pub fn updates_move()
+    ensures { UpdatesMove }
+{}
+
+/// Either goes on after it with the work that it had.
+pub fn marks_leave_work()
+    ensures { MarksLeaveWork }
+{}
+
+/// An update or a delete begins with a look for its row.
+pub fn rows_begin()
+    ensures { RowsBegin }
+{}
+
+/// Where it is found, its place is noted.
+pub fn rows_are_found()
+    ensures { RowsAreFound }
+{}
+
+/// A rollback begins with a whole transaction.
+pub fn backs_begin()
+    ensures { BacksBegin }
+{}
+
+/// It takes back one record an event.
+pub fn backs_go()
+    ensures { BacksGo }
+{}
+
+/// And tells that it has ended the transaction.
+pub fn backs_end()
+    ensures { BacksEnd }
 {}

@@ -1,0 +1,5 @@
+use Rattle.history_laws.proofs.Acting as laws
+use Rattle.history_laws.proofs.backs_go.Goals as goal
+
+pub returns : goal.returns
+returns c = laws.backs_go

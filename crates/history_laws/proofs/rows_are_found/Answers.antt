@@ -1,0 +1,5 @@
+use Rattle.history_laws.proofs.Acting as laws
+use Rattle.history_laws.proofs.rows_are_found.Goals as goal
+
+pub returns : goal.returns
+returns c = laws.rows_are_found

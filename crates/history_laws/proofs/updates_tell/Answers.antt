@@ -1,0 +1,5 @@
+use Rattle.history_laws.proofs.Changing as laws
+use Rattle.history_laws.proofs.updates_tell.Goals as goal
+
+pub returns : goal.returns
+returns c = laws.updates_tell

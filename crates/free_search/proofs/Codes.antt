@@ -1,5 +1,5 @@
 -- What a block's code says of whether it is what is wanted.
-use Rattle.std.proofs.Common.{◌≡◌, ℕ, zero, suc, ◌+◌, ◌<◌, ◌≤◌, Bool, true, false, not, ◌&&◌, ◌||◌, eqb, leb, List, [], ◌∷◌, length, take, get_or, Option, Some, None, refl, sym, ◌∙◌, ap, subst, arith, inl, inr, le-leb, ne_eqb, leb-true, true≢false}
+use Rattle.std.proofs.Common.{◌≡◌, ℕ, zero, suc, ◌+◌, ◌<◌, ◌≤◌, Bool, true, false, not, ◌&&◌, ◌||◌, eqb, leb, List, [], ◌∷◌, length, take, get_or, Option, Some, None, refl, sym, ◌∙◌, ap, subst, arith, inl, inr, le-leb, leb-true, true≢false}
 use Rattle.seg_words.proofs.Lemmas.{cond-true, cond-false, cases_Bool, or_cases, or_left, or_right}
 use Rattle.seg_words.specs.Types.{Shape, class_code}
 use Rattle.redo_model.specs.Records.{Record}
@@ -9,18 +9,13 @@ use Rattle.mark_laws.proofs.ThereLaw.{codes_tell}
 use Rattle.free_search.specs.declared.look.Wanted.{Wanted}
 use Rattle.free_search.specs.declared.look.Wanted.TheVariants as wanted
 use Rattle.free_search.specs.Looks.{passes, found_if}
-use Rattle.free_search.specs.Codes.{has_code, needs_room, room_for, has_room}
+use Rattle.free_search.specs.Codes.{has_code, room_for}
 
 and_false : (a : Bool) → (a && false) ≡ false
 and_false true = refl
 and_false false = refl
 
-and_true : (a : Bool) → (a && true) ≡ a
-and_true true = refl
-and_true false = refl
-
-formatted_told : (sh : Shape) (R : List Record) (q : Sought) (w : Wanted) (b : ℕ) → is_formatted sh R b ≡ true → 1 ≤ code_of sh R b → code_of sh R b ≡ class_code (kept_class R b) → passes sh R q w b ≡ (has_code w (code_of sh R b) && has_room R q w b)
-formatted_told sh R q wanted.Unformatted b y l e = ap not y ∙ sym (ap (λ v. v && true) (ne_eqb (code_of sh R b) 0 (λ z. omega (arith, z, l))))
+formatted_told : (sh : Shape) (R : List Record) (q : Sought) (w : Wanted) (b : ℕ) → is_formatted sh R b ≡ true → 1 ≤ code_of sh R b → code_of sh R b ≡ class_code (kept_class R b) → passes sh R q w b ≡ (has_code w (code_of sh R b) && room_for R q b)
 formatted_told sh R q wanted.Usable b y l e =
     ap (λ v. (v && not (is_left_out q.but b)) && takes_row R (pctfree_of R q.obj) b q.len q.taker) y
     ∙ sym (ap (λ v. v && room_for R q b) (le-leb 1 (code_of sh R b) l))
@@ -28,8 +23,7 @@ formatted_told sh R q wanted.Good b y l e =
     ap (λ v. leb 2 (class_code (kept_class R b)) && ((v && not (is_left_out q.but b)) && takes_row R (pctfree_of R q.obj) b q.len q.taker)) y
     ∙ ap (λ n. leb 2 n && room_for R q b) (sym e)
 
-unformatted_told : (sh : Shape) (R : List Record) (q : Sought) (w : Wanted) (b : ℕ) → is_formatted sh R b ≡ false → code_of sh R b ≡ 0 → passes sh R q w b ≡ (has_code w (code_of sh R b) && has_room R q w b)
-unformatted_told sh R q wanted.Unformatted b f z = ap not f ∙ sym (ap (λ n. eqb n 0 && true) z)
+unformatted_told : (sh : Shape) (R : List Record) (q : Sought) (w : Wanted) (b : ℕ) → is_formatted sh R b ≡ false → code_of sh R b ≡ 0 → passes sh R q w b ≡ (has_code w (code_of sh R b) && room_for R q b)
 unformatted_told sh R q wanted.Usable b f z =
     ap (λ v. (v && not (is_left_out q.but b)) && takes_row R (pctfree_of R q.obj) b q.len q.taker) f
     ∙ sym (ap (λ n. leb 1 n && room_for R q b) z)
@@ -38,43 +32,31 @@ unformatted_told sh R q wanted.Good b f z =
     ∙ and_false (leb 2 (class_code (kept_class R b)))
     ∙ sym (ap (λ n. leb 2 n && room_for R q b) z)
 
-pub passes_told : (sh : Shape) (R : List Record) (q : Sought) (w : Wanted) (b : ℕ) → AreAllowed sh R → passes sh R q w b ≡ (has_code w (code_of sh R b) && has_room R q w b)
+pub passes_told : (sh : Shape) (R : List Record) (q : Sought) (w : Wanted) (b : ℕ) → AreAllowed sh R → passes sh R q w b ≡ (has_code w (code_of sh R b) && room_for R q b)
 passes_told sh R q w b h = elim (cases_Bool (is_formatted sh R b)) [
   | inl y ↦ (let k = (codes_tell sh R b h).formatted y in formatted_told sh R q w b y k.0 k.1)
   | inr n ↦ unformatted_told sh R q w b n ((codes_tell sh R b h).unformatted n)
 ]
 
 -- another code
+pub fails_code : (sh : Shape) (R : List Record) (q : Sought) (w : Wanted) (b : ℕ) → AreAllowed sh R → has_code w (code_of sh R b) ≡ false → passes sh R q w b ≡ false
+fails_code sh R q w b h f = passes_told sh R q w b h ∙ ap (λ v. v && room_for R q b) f
+
 pub no_code : (sh : Shape) (R : List Record) (q : Sought) (w : Wanted) (b c : ℕ) → AreAllowed sh R → c ≡ code_of sh R b → has_code w c ≡ false → None ≡ found_if (passes sh R q w b) b
-no_code sh R q w b c h e f = sym (cond-false _ _ _ (passes_told sh R q w b h ∙ ap (λ v. v && has_room R q w b) (ap (has_code w) (sym e) ∙ f)))
-
-needed : (R : List Record) (q : Sought) (w : Wanted) (b : ℕ) → needs_room w ≡ true → has_room R q w b ≡ room_for R q b
-needed R q wanted.Unformatted b y = absurd (true≢false (sym y))
-needed R q wanted.Usable b y = refl
-needed R q wanted.Good b y = refl
-
-not_needed : (R : List Record) (q : Sought) (w : Wanted) (b : ℕ) → needs_room w ≡ false → has_room R q w b ≡ true
-not_needed R q wanted.Unformatted b f = refl
-not_needed R q wanted.Usable b f = absurd (true≢false f)
-not_needed R q wanted.Good b f = absurd (true≢false f)
-
--- the code says it all
-pub code_alone : (sh : Shape) (R : List Record) (q : Sought) (w : Wanted) (b c : ℕ) → AreAllowed sh R → c ≡ code_of sh R b → has_code w c ≡ true → needs_room w ≡ false → Some b ≡ found_if (passes sh R q w b) b
-code_alone sh R q w b c h e y f = sym (cond-true _ _ _ (passes_told sh R q w b h ∙ ap (λ v. v && has_room R q w b) (ap (has_code w) (sym e) ∙ y) ∙ not_needed R q w b f))
+no_code sh R q w b c h e f = sym (cond-false _ _ _ (fails_code sh R q w b h (ap (has_code w) (sym e) ∙ f)))
 
 -- the block has to say the rest
-pub with_room : (sh : Shape) (R : List Record) (q : Sought) (w : Wanted) (b c : ℕ) → AreAllowed sh R → c ≡ code_of sh R b → has_code w c ≡ true → needs_room w ≡ true → found_if (room_for R q b) b ≡ found_if (passes sh R q w b) b
-with_room sh R q w b c h e y n = ap (λ v. found_if v b) (sym (passes_told sh R q w b h ∙ ap (λ v. v && has_room R q w b) (ap (has_code w) (sym e) ∙ y) ∙ needed R q w b n))
+pub with_room : (sh : Shape) (R : List Record) (q : Sought) (w : Wanted) (b c : ℕ) → AreAllowed sh R → c ≡ code_of sh R b → has_code w c ≡ true → found_if (room_for R q b) b ≡ found_if (passes sh R q w b) b
+with_room sh R q w b c h e y = ap (λ v. found_if v b) (sym (passes_told sh R q w b h ∙ ap (λ v. v && room_for R q b) (ap (has_code w) (sym e) ∙ y)))
 
-coded : (w : Wanted) (c : ℕ) → has_code w c ≡ true → needs_room w ≡ true → 1 ≤ c
-coded wanted.Unformatted c y n = absurd (true≢false (sym n))
-coded wanted.Usable c y n = leb-true 1 c y
-coded wanted.Good c y n = (let k = leb-true 2 c y in omega (arith, k))
+coded : (w : Wanted) (c : ℕ) → has_code w c ≡ true → 1 ≤ c
+coded wanted.Usable c y = leb-true 1 c y
+coded wanted.Good c y = (let k = leb-true 2 c y in omega (arith, k))
 
-pub code_formatted : (sh : Shape) (R : List Record) (w : Wanted) (b c : ℕ) → AreAllowed sh R → c ≡ code_of sh R b → has_code w c ≡ true → needs_room w ≡ true → is_formatted sh R b ≡ true
-code_formatted sh R w b c h e y n = elim (cases_Bool (is_formatted sh R b)) [
+pub code_formatted : (sh : Shape) (R : List Record) (w : Wanted) (b c : ℕ) → AreAllowed sh R → c ≡ code_of sh R b → has_code w c ≡ true → is_formatted sh R b ≡ true
+code_formatted sh R w b c h e y = elim (cases_Bool (is_formatted sh R b)) [
   | inl t ↦ t
-  | inr f ↦ (let z = (codes_tell sh R b h).unformatted f in let k = coded w c y n in absurd (omega (arith, e, z, k)))
+  | inr f ↦ (let z = (codes_tell sh R b h).unformatted f in let k = coded w c y in absurd (omega (arith, e, z, k)))
 ]
 
 -- the block itself

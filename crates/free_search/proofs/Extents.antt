@@ -1,31 +1,31 @@
 -- From the blocks of an extent to the positions of a table's data blocks.
-use Rattle.std.proofs.Common.{◌≡◌, ◌⊎◌, ℕ, zero, suc, ◌+◌, ◌-◌, ◌<◌, ◌≤◌, min, Bool, true, false, not, ◌&&◌, cond, eqb, leb, ltb, List, [], ◌∷◌, length, slice_get, Option, Some, None, refl, sym, ◌∙◌, ap, subst, arith, inl, inr, le-leb, lt-ltb, leb-true, ltb-true, eqb-true, eq-eqb, true≢false}
+use Rattle.std.proofs.Common.{◌≡◌, ℕ, zero, suc, ◌+◌, ◌-◌, ◌<◌, ◌≤◌, min, Bool, true, false, not, ◌&&◌, eqb, ltb, List, [], ◌∷◌, length, slice_get, Option, Some, None, refl, sym, ◌∙◌, ap, subst, arith, inl, inr, le-leb, lt-ltb, leb-true, ltb-true, eqb-true, eq-eqb, true≢false}
 use Rattle.seg_words.proofs.Lemmas.{cond-true, cond-false, cases_Bool, and_from, or_left, or_right, eqb-false, not-true}
 use Rattle.seg_words.specs.Types.{MOST_BLOCKS, MOST_EXTENT_BLOCKS, Shape, first_block, head_blocks, is_shape}
 use Rattle.std.specs.Prelude.{Result, Ok, Err, IfOk}
 use Rattle.disk_model.specs.Crash.{Meaning}
 use Rattle.redo_model.specs.Records.{Record}
-use Rattle.redo_model.specs.Model.{Extent, extents_of, extent_at, in_extent, extent_data, blocks_from, data_of, data_blocks, code_of, has_extent, is_formatted, IsRowBlock, IsTable}
+use Rattle.redo_model.specs.Model.{Extent, extents_of, extent_at, block_in, in_extent, extent_data, blocks_from, data_of, data_blocks, code_of, has_extent, is_formatted, IsRowBlock}
 use Rattle.redo_laws.specs.Among.{is_in}
 use Rattle.redo_laws.proofs.numbers.Bounds.{limits}
 use Rattle.redo_laws.proofs.space.LowMark.{apart}
 use Rattle.redo_laws.proofs.space.Places.{contains_in, in_left, in_right}
 use Rattle.space_laws.proofs.ExtentsLaw.{head_few}
 use Rattle.space_laws.proofs.MarksLaw.{formatted_are_under_mark}
-use Rattle.mark_laws.specs.There.{HasExtents}
 use Rattle.mark_laws.proofs.ThereLaw.{tables_have_extents}
 use Rattle.data_places.specs.declared.place.Place.{Place}
 use Rattle.data_places.specs.Places.{data_count, block_or_none, IsPlace}
 use Rattle.data_places.proofs.PlacesLaw.{places_are_told}
+use Rattle.segment_read.specs.declared.segment.Segment.{Segment}
 use Rattle.segment_read.specs.Segments.{IsSegment, number_at}
 use Rattle.store_core.specs.Store.{Held, IsTrue}
 use Rattle.store_core.specs.Causes.{HasLooked}
 use Rattle.store_core.specs.declared.fault.StoreFault.{StoreFault}
 use Rattle.free_search.specs.declared.look.Look.{Look}
 use Rattle.free_search.specs.declared.look.Wanted.{Wanted}
-use Rattle.free_search.specs.Looks.{is_within, is_elsewhere, passes, passes_in, row_sought, IsFirstBlock, Knows}
-use Rattle.free_search.specs.Walks.{NoneOf, IsFirstOf, FirstOf, NoneWithin, IsFirstWithin, FirstWithin}
-use Rattle.free_search.proofs.Known.{Fixed, fixed, knows_later}
+use Rattle.free_search.specs.Looks.{is_within, is_elsewhere, passes, passes_in, row_sought, IsFirstBlock, Knows, NoneIn}
+use Rattle.free_search.specs.Walks.{NoneOf, FirstOf, NoneWithin, FirstWithin}
+use Rattle.free_search.proofs.Known.{Fixed, FixedSegment, fixed, segment_fixed, knows_later}
 
 -- the extent with the number that its header names
 
@@ -47,18 +47,56 @@ has_it (f ∷ es) zero e h =
     or_left _ _ (eq-eqb f.number e.number (ap (λ (x : Extent). x.number) same))
 has_it (f ∷ es) (suc i) e h = or_right (eqb f.number e.number) _ (has_it es i e h)
 
--- each extent of a table is a whole one of the store, so that it has a first block
-pub whole_extent : (R : List Record) (l : Look) (index : ℕ) (e : Extent) → Fixed R l → extent_at (extents_of R l.segment.obj) index ≡ Some e → first_block l.shape e.number + l.shape.extent ≤ l.shape.blocks
-whole_extent R l index e k at = leb-true (first_block l.shape e.number + l.shape.extent) l.shape.blocks ((tables_have_extents l.shape R l.segment.obj k.lawful k.table).whole e.number (has_it (extents_of R l.segment.obj) index e at))
+pub at_below : (es : List Extent) (n : ℕ) (e : Extent) → extent_at es n ≡ Some e → n < length es
+at_below [] n e at = absurd (let z : ◌≡◌ {A = Option Extent} None (Some e) = at in cc)
+at_below (f ∷ es) zero e at = omega arith
+at_below (f ∷ es) (suc n) e at = (let l = at_below es n e at in omega (arith, l))
+
+pub extent_there : (es : List Extent) (n : ℕ) → n < length es → (e : Extent) × (extent_at es n ≡ Some e)
+extent_there [] n l = absurd (omega (arith, l))
+extent_there (e ∷ es) zero l = (e, refl)
+extent_there (e ∷ es) (suc n) l = extent_there es n (omega (arith, l))
+
+-- each extent of a table is a whole one of the store, so that it has its blocks
+whole_extent : (R : List Record) (k : Shape) (s : Segment) (index : ℕ) (e : Extent) → FixedSegment R k s → extent_at (extents_of R s.obj) index ≡ Some e → first_block k e.number + k.extent ≤ k.blocks
+whole_extent R k s index e f at = leb-true (first_block k e.number + k.extent) k.blocks ((tables_have_extents k R s.obj f.lawful f.table).whole e.number (has_it (extents_of R s.obj) index e at))
+
+pub has_block : (R : List Record) (k : Shape) (s : Segment) (index x nth : ℕ) → FixedSegment R k s → number_at (extents_of R s.obj) index ≡ Some x → nth < k.extent → block_or_none k x nth ≡ None → ⊥
+has_block R k s index x nth f n less h =
+    let e = named (extents_of R s.obj) index x n in
+    let w = whole_extent R k s index e.extent f e.at in
+    let same : first_block k e.extent.number ≡ first_block k x = ap (first_block k) e.number in
+    let y : ltb (first_block k x + nth) k.blocks ≡ true = lt-ltb (first_block k x + nth) k.blocks (omega (arith, w, less, same)) in
+    (let z : ◌≡◌ {A = Option ℕ} (Some (first_block k x + nth)) None = sym (cond-true _ _ _ y) ∙ h in cc)
 
 pub has_first : (R : List Record) (l : Look) (index x : ℕ) → Fixed R l → number_at (extents_of R l.segment.obj) index ≡ Some x → block_or_none l.shape x 0 ≡ None → ⊥
-has_first R l index x k n h =
-    let e = named (extents_of R l.segment.obj) index x n in
-    let w = whole_extent R l index e.extent k e.at in
-    let f = (limits l.shape k.shape).extent_from in
-    let same : first_block l.shape e.extent.number ≡ first_block l.shape x = ap (first_block l.shape) e.number in
-    let y : ltb (first_block l.shape x + 0) l.shape.blocks ≡ true = lt-ltb (first_block l.shape x + 0) l.shape.blocks (omega (arith, w, f, same)) in
-    (let z : ◌≡◌ {A = Option ℕ} (Some (first_block l.shape x + 0)) None = sym (cond-true _ _ _ y) ∙ h in cc)
+has_first R l index x k n h = (let f = (limits l.shape k.shape).extent_from in has_block R l.shape l.segment index x 0 (segment_fixed R l k) n (omega (arith, f)) h)
+
+-- a block by its number in an extent
+record Numbered (k : Shape) (x nth d : ℕ) : Type 0 where
+  block : d ≡ first_block k x + nth
+  there : d < k.blocks
+
+numbered : (k : Shape) (x nth d : ℕ) → block_or_none k x nth ≡ Some d → Numbered k x nth d
+numbered k x nth d h = elim (cases_Bool (ltb (first_block k x + nth) k.blocks)) [
+  | inl y ↦
+      let e : ◌≡◌ {A = Option ℕ} (Some (first_block k x + nth)) (Some d) = sym (cond-true _ _ _ y) ∙ h in
+      let t : first_block k x + nth ≡ d = cc in
+      let u = ltb-true _ _ y in
+      record { block = sym t; there = omega (arith, t, u) }
+  | inr f ↦ absurd (let e : ◌≡◌ {A = Option ℕ} None (Some d) = sym (cond-false _ _ _ f) ∙ h in cc)
+]
+
+pub block_most : (k : Shape) (x nth d : ℕ) → is_shape k ≡ true → block_or_none k x nth ≡ Some d → d ≤ MOST_BLOCKS
+block_most k x nth d s h =
+    let u = (numbered k x nth d h).there in
+    let m = (limits k s).most in
+    omega (arith, u, m)
+
+pub block_told : (k : Shape) (es : List Extent) (index x nth d : ℕ) → number_at es index ≡ Some x → block_or_none k x nth ≡ Some d → d ≡ block_in k (extent_at es index) nth
+block_told k es index x nth d n h =
+    let e = named es index x n in
+    (numbered k x nth d h).block ∙ ap (λ (y : ℕ). first_block k y + nth) (sym e.number) ∙ sym (ap (λ (z : Option Extent). block_in k z nth) e.at)
 
 -- the extent at an index, with its number and its first block
 pub record Begins (R : List Record) (l : Look) (index x b : ℕ) : Type 0 where
@@ -69,24 +107,9 @@ pub record Begins (R : List Record) (l : Look) (index x b : ℕ) : Type 0 where
 pub begins : (R : List Record) (l : Look) (index x b : ℕ) → number_at (extents_of R l.segment.obj) index ≡ Some x → block_or_none l.shape x 0 ≡ Some b → Begins R l index x b
 begins R l index x b n h =
     let e = named (extents_of R l.segment.obj) index x n in
-    record { extent = e.extent; first = record { extent = e.at; block = block_is h ∙ ap (first_block l.shape) (sym e.number) }; number = e.number }
-  where
-    block_is : block_or_none l.shape x 0 ≡ Some b → b ≡ first_block l.shape x
-    block_is z = elim (cases_Bool (ltb (first_block l.shape x + 0) l.shape.blocks)) [
-      | inl y ↦ (let s : ◌≡◌ {A = Option ℕ} (Some (first_block l.shape x + 0)) (Some b) = sym (cond-true _ _ _ y) ∙ z in let t : first_block l.shape x + 0 ≡ b = cc in omega (arith, t))
-      | inr f ↦ absurd (let s : ◌≡◌ {A = Option ℕ} None (Some b) = sym (cond-false _ _ _ f) ∙ z in cc)
-    ]
-
-pub first_most : (sh : Shape) (x b : ℕ) → is_shape sh ≡ true → block_or_none sh x 0 ≡ Some b → b ≤ MOST_BLOCKS
-first_most sh x b s h = elim (cases_Bool (ltb (first_block sh x + 0) sh.blocks)) [
-  | inl y ↦
-      let e : ◌≡◌ {A = Option ℕ} (Some (first_block sh x + 0)) (Some b) = sym (cond-true _ _ _ y) ∙ h in
-      let t : first_block sh x + 0 ≡ b = cc in
-      let u = ltb-true _ _ y in
-      let m = (limits sh s).most in
-      omega (arith, t, u, m)
-  | inr f ↦ absurd (let e : ◌≡◌ {A = Option ℕ} None (Some b) = sym (cond-false _ _ _ f) ∙ h in cc)
-]
+    let d = (numbered l.shape x 0 b h).block in
+    let first : b ≡ first_block l.shape x = omega (arith, d) in
+    record { extent = e.extent; first = record { extent = e.at; block = first ∙ ap (first_block l.shape) (sym e.number) }; number = e.number }
 
 -- data blocks of an extent
 
@@ -116,6 +139,10 @@ row_block R l index e b nth k f least u y =
     let plain : 0 + index ≡ index = omega arith in
     let m : is_in (b + nth) (extent_data l.shape (0 + index) e.number) ≡ true = subst (λ n. is_in (b + nth) (extent_data l.shape n e.number) ≡ true) (sym plain) (data_in l.shape index e.number b nth f.block least u) in
     formatted_are_under_mark l.shape R l.segment.obj (b + nth) k.lawful.allowed k.table (contains_in (data_blocks l.shape R l.segment.obj) (b + nth) (in_extents l.shape 0 (extents_of R l.segment.obj) index e (b + nth) f.extent m)) y
+
+-- where no data block of the extent is wanted
+pub none_among : (R : List Record) (l : Look) (w : Wanted) (index : ℕ) (e : Extent) (b from to : ℕ) → IsFirstBlock l.shape R l.segment.obj index e b → head_blocks index ≤ from → to ≤ l.shape.extent → NoneIn l.shape R (row_sought l) w index e → NoneOf (passes l.shape R (row_sought l) w) b from to
+none_among R l w index e b from to f least most none = λ nth up below. none (b + nth) (data_in l.shape index e.number b nth f.block (omega (arith, least, up)) (omega (arith, below, most)))
 
 -- ---- positions
 
@@ -222,7 +249,7 @@ ok_map P Q (Err e) f h = tt
 -- the first one of an extent, by its numbers, is the first one of its positions
 pub extent_says : {D : Type 0} (meaning : Meaning D) (a b : Held D) (R : List Record) (l : Look) (w : Wanted) (only : Option ℕ) (index passed x first head count : ℕ) (r : Result (Option ℕ) StoreFault) → IsTrue meaning R a → Knows a.shape R l → HasLooked {T = ℕ} meaning a b (Ok x)
     → number_at (extents_of R l.segment.obj) index ≡ Some x → block_or_none l.shape x 0 ≡ Some first → is_elsewhere only x ≡ false → index < length (extents_of R l.segment.obj) → passed ≡ data_count l.shape index → passed ≤ l.segment.high → head ≡ head_blocks index → count ≡ min (l.shape.extent - head) (l.segment.high - passed)
-    → ((Q : List Record) (i : ℕ) (e : Extent) → IsTrue meaning Q b → Knows b.shape Q l → IsFirstBlock l.shape Q l.segment.obj i e first → head_blocks i ≤ head → head + count ≤ l.shape.extent → IfOk r (FirstOf (passes l.shape Q (row_sought l) w) first head (head + count)))
+    → ((Q : List Record) (e : Extent) → IsTrue meaning Q b → Knows b.shape Q l → IsFirstBlock l.shape Q l.segment.obj index e first → head_blocks index ≤ head → head + count ≤ l.shape.extent → IfOk r (FirstOf (passes l.shape Q (row_sought l) w) first head (head + count)))
     → IfOk r (FirstWithin (passes_in l.shape R (row_sought l) w only) (data_blocks l.shape R l.segment.obj) l.segment.high passed (passed + (l.shape.extent - head_blocks index)))
 extent_says meaning a b R l w only index passed x first head count r t k p n f here there before under h c says =
     let known = fixed meaning a R l t k in
@@ -230,13 +257,13 @@ extent_says meaning a b R l w only index passed x first head count r t k p n f h
     let few = head_below l.shape index known.shape in
     ok_map _ _ r
     (λ found of. lifted R l (passes l.shape R (row_sought l) w) only index passed first head count l.segment.high e.extent found (record { first = e.first; there = there; passed_is = before }) (wants R l only e.extent.number (ap (is_elsewhere only) e.number ∙ here)) h few under c of)
-    (says R index e.extent (p.stays_true R t) (knows_later meaning a b R l p.loan k) e.first (omega (arith, h)) (omega (arith, h, c, few)))
+    (says R e.extent (p.stays_true R t) (knows_later meaning a b R l p.loan k) e.first (omega (arith, h)) (omega (arith, h, c, few)))
 
 pub extent_sound : {D : Type 0} (meaning : Meaning D) (a b : Held D) (R : List Record) (l : Look) (index x first head count high passed : ℕ) (P : Type 0) → IsTrue meaning R a → Knows a.shape R l → HasLooked {T = ℕ} meaning a b (Ok x)
     → number_at (extents_of R l.segment.obj) index ≡ Some x → block_or_none l.shape x 0 ≡ Some first → head ≡ head_blocks index → count ≡ min (l.shape.extent - head) (high - passed)
-    → ((Q : List Record) (i : ℕ) (e : Extent) → IsTrue meaning Q b → Knows b.shape Q l → IsFirstBlock l.shape Q l.segment.obj i e first → head_blocks i ≤ head → head + count ≤ l.shape.extent → P) → P
+    → ((Q : List Record) (e : Extent) → IsTrue meaning Q b → Knows b.shape Q l → IsFirstBlock l.shape Q l.segment.obj index e first → head_blocks index ≤ head → head + count ≤ l.shape.extent → P) → P
 extent_sound meaning a b R l index x first head count high passed P t k p n f h c sound =
     let known = fixed meaning a R l t k in
     let e = begins R l index x first n f in
     let few = head_below l.shape index known.shape in
-    sound R index e.extent (p.stays_true R t) (knows_later meaning a b R l p.loan k) e.first (omega (arith, h)) (omega (arith, h, c, few))
+    sound R e.extent (p.stays_true R t) (knows_later meaning a b R l p.loan k) e.first (omega (arith, h)) (omega (arith, h, c, few))

@@ -1,12 +1,10 @@
 -- What a search finds, step by step.
-use Rattle.std.proofs.Common.{◌≡◌, ℕ, ◌<◌, ◌≤◌, true, false, not, cond, ltb, List, [], ◌∷◌, length, find, Option, Some, None, Ok, Err, refl, sym, ◌∙◌, ap, ap₂, subst, arith, lt-ltb, le-ltb, true≢false}
-use Rattle.std.specs.Prelude.{Result, IfOk, IfErr}
+use Rattle.std.proofs.Common.{◌≡◌, ℕ, ◌<◌, ◌≤◌, cond, ltb, List, length, find, Option, Some, None, refl, sym, ◌∙◌, ap, subst, arith, lt-ltb, le-ltb}
 use Rattle.seg_words.proofs.Lemmas.{cond-true, cond-false}
-use Rattle.seg_words.specs.Types.{Shape, Taker, MOST_EXTENTS}
+use Rattle.seg_words.specs.Types.{Shape, MOST_EXTENTS}
 use Rattle.disk_model.specs.Crash.{Meaning}
 use Rattle.redo_model.specs.Records.{Record}
-use Rattle.redo_model.specs.Model.{extents_of, data_blocks, high_mark, under_high, first_unformatted, is_formatted, IsTable}
-use Rattle.mark_laws.specs.declared.step.MarkStep.{MarkStep}
+use Rattle.redo_model.specs.Model.{extents_of, data_blocks, high_mark, under_high, first_unformatted, IsTable}
 use Rattle.mark_laws.specs.declared.step.MarkStep.TheVariants as step
 use Rattle.mark_laws.specs.declared.step.Found.{Found}
 use Rattle.mark_laws.specs.declared.step.Found.TheVariants as found
@@ -18,6 +16,7 @@ use Rattle.mark_laws.specs.Refusals.{refusal_of, IsRefusal}
 use Rattle.mark_laws.proofs.RefusalsLaw.{refusals_mean}
 use Rattle.data_places.specs.Places.{data_count}
 use Rattle.data_places.proofs.PlacesLaw.{counts_are_told}
+use Rattle.segment_read.specs.declared.segment.Segment.{Segment}
 use Rattle.segment_read.specs.Segments.{IsSegment}
 use Rattle.store_core.specs.Store.{Held, IsTrue}
 use Rattle.free_search.specs.declared.look.Look.{Look}
@@ -25,44 +24,43 @@ use Rattle.free_search.specs.declared.look.Row.{Row}
 use Rattle.free_search.specs.Looks.{IsLook, Knows, row_sought, sought}
 use Rattle.free_search.specs.declared.fault.FindFault.{FindFault}
 use Rattle.free_search.specs.Answers.{first_of, fault_of, IsRefusedBy}
-use Rattle.free_search.proofs.Known.{Fixed}
-use Rattle.free_search.proofs.Lists.{unformatted_is}
 
 -- ---- movements of the marks
 
-counted : (R : List Record) (l : Look) (count : ℕ) → IsSegment l.shape R l.segment.obj l.segment → count ≡ data_count l.shape l.segment.extents → count ≡ length (data_blocks l.shape R l.segment.obj)
-counted R l count is c = c ∙ ap (data_count l.shape) is.extents ∙ sym (counts_are_told l.shape (extents_of R l.segment.obj))
+counted : (R : List Record) (k : Shape) (s : Segment) (count : ℕ) → IsSegment k R s.obj s → count ≡ data_count k s.extents → count ≡ length (data_blocks k R s.obj)
+counted R k s count is c = c ∙ ap (data_count k) is.extents ∙ sym (counts_are_told k (extents_of R s.obj))
 
-pub grows_up : (R : List Record) (l : Look) (count : ℕ) → IsSegment l.shape R l.segment.obj l.segment → count ≡ data_count l.shape l.segment.extents → l.segment.high < count → Some step.Advance ≡ next_growth l.shape R l.segment.obj
-grows_up R l count is c less =
-    let all = counted R l count is c in
+pub grows_up : (R : List Record) (k : Shape) (s : Segment) (count : ℕ) → IsSegment k R s.obj s → count ≡ data_count k s.extents → s.high < count → Some step.Advance ≡ next_growth k R s.obj
+grows_up R k s count is c less =
+    let all = counted R k s count is c in
     let high = is.high in
-    sym (cond-true _ _ _ (lt-ltb (high_mark R l.segment.obj) (length (data_blocks l.shape R l.segment.obj)) (omega (arith, all, high, less))))
+    sym (cond-true _ _ _ (lt-ltb (high_mark R s.obj) (length (data_blocks k R s.obj)) (omega (arith, all, high, less))))
 
-not_up : (R : List Record) (l : Look) (count : ℕ) → IsSegment l.shape R l.segment.obj l.segment → count ≡ data_count l.shape l.segment.extents → count ≤ l.segment.high → next_growth l.shape R l.segment.obj ≡ cond (ltb (length (extents_of R l.segment.obj)) MOST_EXTENTS) (extend_if (least_free l.shape R)) None
-not_up R l count is c more =
-    let all = counted R l count is c in
+not_up : (R : List Record) (k : Shape) (s : Segment) (count : ℕ) → IsSegment k R s.obj s → count ≡ data_count k s.extents → count ≤ s.high → next_growth k R s.obj ≡ cond (ltb (length (extents_of R s.obj)) MOST_EXTENTS) (extend_if (least_free k R)) None
+not_up R k s count is c more =
+    let all = counted R k s count is c in
     let high = is.high in
-    cond-false _ _ _ (le-ltb (high_mark R l.segment.obj) (length (data_blocks l.shape R l.segment.obj)) (omega (arith, all, high, more)))
+    cond-false _ _ _ (le-ltb (high_mark R s.obj) (length (data_blocks k R s.obj)) (omega (arith, all, high, more)))
 
-pub grows_no_more : (R : List Record) (l : Look) (count : ℕ) → IsSegment l.shape R l.segment.obj l.segment → count ≡ data_count l.shape l.segment.extents → count ≤ l.segment.high → MOST_EXTENTS ≤ l.segment.extents → None ≡ next_growth l.shape R l.segment.obj
-grows_no_more R l count is c more many =
+pub grows_no_more : (R : List Record) (k : Shape) (s : Segment) (count : ℕ) → IsSegment k R s.obj s → count ≡ data_count k s.extents → count ≤ s.high → MOST_EXTENTS ≤ s.extents → None ≡ next_growth k R s.obj
+grows_no_more R k s count is c more many =
     let n = is.extents in
-    sym (not_up R l count is c more ∙ cond-false _ _ _ (le-ltb (length (extents_of R l.segment.obj)) MOST_EXTENTS (omega (arith, n, many))))
+    sym (not_up R k s count is c more ∙ cond-false _ _ _ (le-ltb (length (extents_of R s.obj)) MOST_EXTENTS (omega (arith, n, many))))
 
-pub grows_by : (R : List Record) (l : Look) (count : ℕ) (x : Option ℕ) → IsSegment l.shape R l.segment.obj l.segment → count ≡ data_count l.shape l.segment.extents → count ≤ l.segment.high → l.segment.extents < MOST_EXTENTS → x ≡ least_free l.shape R → extend_if x ≡ next_growth l.shape R l.segment.obj
-grows_by R l count x is c more few e =
+pub grows_by : (R : List Record) (k : Shape) (s : Segment) (count : ℕ) (x : Option ℕ) → IsSegment k R s.obj s → count ≡ data_count k s.extents → count ≤ s.high → s.extents < MOST_EXTENTS → x ≡ least_free k R → extend_if x ≡ next_growth k R s.obj
+grows_by R k s count x is c more few e =
     let n = is.extents in
-    ap extend_if e ∙ sym (not_up R l count is c more ∙ cond-true _ _ _ (lt-ltb (length (extents_of R l.segment.obj)) MOST_EXTENTS (omega (arith, n, few))))
+    ap extend_if e ∙ sym (not_up R k s count is c more ∙ cond-true _ _ _ (lt-ltb (length (extents_of R s.obj)) MOST_EXTENTS (omega (arith, n, few))))
 
-first_is : (R : List Record) (l : Look) (r : Option ℕ) → r ≡ find (λ b. not (is_formatted l.shape R b)) (under_high l.shape R l.segment.obj) → r ≡ first_unformatted l.shape R (under_high l.shape R l.segment.obj)
-first_is R l r e = e ∙ unformatted_is l.shape R (under_high l.shape R l.segment.obj)
+pub formats : (k : Shape) (R : List Record) (o b : ℕ) → Some b ≡ first_unformatted k R (under_high k R o) → Some (step.Format b) ≡ next_mark k R o
+formats k R o b e = ap (λ (x : Option ℕ). format_else x (next_growth k R o)) e
 
-pub formats : (R : List Record) (l : Look) (b : ℕ) → Some b ≡ find (λ b. not (is_formatted l.shape R b)) (under_high l.shape R l.segment.obj) → Some (step.Format b) ≡ next_mark l.shape R l.segment.obj
-formats R l b e = ap (λ (x : Option ℕ). format_else x (next_growth l.shape R l.segment.obj)) (first_is R l (Some b) e)
+pub formats_none : (k : Shape) (R : List Record) (o : ℕ) → None ≡ first_unformatted k R (under_high k R o) → next_growth k R o ≡ next_mark k R o
+formats_none k R o e = ap (λ (x : Option ℕ). format_else x (next_growth k R o)) e
 
-pub formats_none : (R : List Record) (l : Look) → None ≡ find (λ b. not (is_formatted l.shape R b)) (under_high l.shape R l.segment.obj) → next_growth l.shape R l.segment.obj ≡ next_mark l.shape R l.segment.obj
-formats_none R l e = ap (λ (x : Option ℕ). format_else x (next_growth l.shape R l.segment.obj)) (first_is R l None e)
+-- by the store's shape and the table's number
+pub mark_same : (sh k : Shape) (R : List Record) (o : ℕ) (s : Segment) → k ≡ sh → IsSegment sh R o s → next_mark k R s.obj ≡ next_mark sh R o
+mark_same sh k R o s e is = ap (λ (x : Shape). next_mark x R s.obj) e ∙ ap (next_mark sh R) is.obj
 
 -- ---- the search
 

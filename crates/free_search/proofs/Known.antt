@@ -1,6 +1,6 @@
 -- What a search knows, on a true store, and after further calls that only look at it.
 use Rattle.std.proofs.Common.{◌≡◌, ℕ, Bool, true, List, refl, sym, ◌∙◌, ap, subst}
-use Rattle.seg_words.specs.Types.{Shape, Block, Taker, takes, is_shape}
+use Rattle.seg_words.specs.Types.{Shape, Block, takes, is_shape}
 use Rattle.disk_model.specs.Crash.{Meaning}
 use Rattle.redo_model.specs.Records.{Record}
 use Rattle.redo_model.specs.Model.{IsRowBlock, IsTable, IsLawful, pctfree_of, block_of, data_blocks, ended_in, high_mark, takes_row, under_high}
@@ -20,7 +20,39 @@ use Rattle.segment_read.specs.declared.segment.Segment.{Segment}
 use Rattle.segment_read.specs.Segments.{IsSegment}
 use Rattle.free_search.specs.declared.look.Look.{Look}
 use Rattle.free_search.specs.declared.look.Row.{Row}
-use Rattle.free_search.specs.Looks.{Knows, IsLook}
+use Rattle.free_search.specs.Looks.{HasSegment, Knows, IsLook}
+
+-- by the shape that a walk over the segment keeps
+pub record FixedSegment (R : List Record) (k : Shape) (s : Segment) : Type 0 where
+  pub within : is_shape k ≡ true
+  pub lawful : IsLawful k R
+  pub table : IsTable R s.obj
+  pub segment : IsSegment k R s.obj s
+
+pub fixed_segment : {D : Type 0} (meaning : Meaning D) (a : Held D) (R : List Record) (k : Shape) (s : Segment) → IsTrue meaning R a → HasSegment a.shape R k s → FixedSegment R k s
+fixed_segment meaning a R k s t h = record {
+  within = ap is_shape h.shape ∙ t.list.within;
+  lawful = subst (λ (sh : Shape). IsLawful sh R) (sym h.shape) t.lawful;
+  table = h.table;
+  segment = h.segment;
+}
+
+pub segment_later : {D : Type 0} (meaning : Meaning D) (a b : Held D) (R : List Record) (k : Shape) (s : Segment) → SameLoan meaning a b → HasSegment a.shape R k s → HasSegment b.shape R k s
+segment_later meaning a b R k s loan h = record { shape = h.shape ∙ sym loan.shape; table = h.table; segment = h.segment }
+
+pub segment_said : (sh : Shape) (R : List Record) (k : Shape) (s : Segment) → HasSegment sh R k s → IsSegment sh R s.obj s
+segment_said sh R k s h = subst (λ (x : Shape). IsSegment x R s.obj s) h.shape h.segment
+
+-- a segment that was read is known
+pub segment_is : (sh : Shape) (R : List Record) (o : ℕ) (k : Shape) (s : Segment) → k ≡ sh → IsTable R o → IsSegment sh R o s → HasSegment sh R k s
+segment_is sh R o k s e t is = record {
+  shape = e;
+  table = subst (λ n. IsTable R n) (sym is.obj) t;
+  segment = subst (λ (x : Shape). IsSegment x R s.obj s) (sym e) (subst (λ n. IsSegment sh R n s) (sym is.obj) is);
+}
+
+pub segment_of : (sh : Shape) (R : List Record) (l : Look) → Knows sh R l → HasSegment sh R l.shape l.segment
+segment_of sh R l k = record { shape = k.shape; table = k.table; segment = k.segment }
 
 -- by the shape that the search keeps
 pub record Fixed (R : List Record) (l : Look) : Type 0 where
@@ -38,6 +70,9 @@ fixed meaning a R l t k = record {
   segment = k.segment;
   ended = k.ended;
 }
+
+pub segment_fixed : (R : List Record) (l : Look) → Fixed R l → FixedSegment R l.shape l.segment
+segment_fixed R l k = record { within = k.shape; lawful = k.lawful; table = k.table; segment = k.segment }
 
 -- after calls that keep the store's shape
 pub knows_later : {D : Type 0} (meaning : Meaning D) (a b : Held D) (R : List Record) (l : Look) → SameLoan meaning a b → Knows a.shape R l → Knows b.shape R l

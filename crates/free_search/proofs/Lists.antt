@@ -1,9 +1,6 @@
 -- The first that passes, by places in a list.
-use Rattle.std.proofs.Common.{◌≡◌, ◌⊎◌, ℕ, zero, suc, ◌<◌, ◌≤◌, Bool, true, false, not, cond, leb, leb-true, leb-false, List, [], ◌∷◌, take, find, slice_get, Option, Some, None, refl, sym, ◌∙◌, ap, subst, arith, inl, inr}
+use Rattle.std.proofs.Common.{◌≡◌, ◌⊎◌, ℕ, zero, suc, ◌<◌, ◌≤◌, Bool, true, false, leb, leb-true, leb-false, List, [], ◌∷◌, take, find, slice_get, Option, Some, None, refl, sym, ◌∙◌, ap, arith, inl, inr}
 use Rattle.seg_words.proofs.Lemmas.{cond-true, cond-false, cases_Bool}
-use Rattle.seg_words.specs.Types.{Shape}
-use Rattle.redo_model.specs.Records.{Record}
-use Rattle.redo_model.specs.Model.{is_formatted, first_unformatted}
 use Rattle.free_search.specs.Walks.{NoneWithin, IsFirstWithin}
 
 nothing_there : (p : ℕ → Bool) (bs : List ℕ) (high : ℕ) → ((k b : ℕ) → k < high → slice_get bs k ≡ Some b → p b ≡ false) → find p (take high bs) ≡ None
@@ -37,11 +34,3 @@ none_further p bs high from to n m k b z l u e = elim (cases_Bool (leb from k)) 
 
 pub none_passed : (p : ℕ → Bool) (bs : List ℕ) (high : ℕ) → NoneWithin p bs high 0 0
 none_passed p bs high k b z l u e = absurd (omega (arith, l))
-
--- the first unformatted block
-pub unformatted_is : (sh : Shape) (R : List Record) (bs : List ℕ) → find (λ b. not (is_formatted sh R b)) bs ≡ first_unformatted sh R bs
-unformatted_is sh R [] = refl
-unformatted_is sh R (b ∷ bs) = elim (cases_Bool (is_formatted sh R b)) [
-  | inl y ↦ cond-false _ _ _ (ap not y) ∙ unformatted_is sh R bs ∙ sym (cond-true _ _ _ y)
-  | inr f ↦ cond-true _ _ _ (ap not f) ∙ sym (cond-false _ _ _ f)
-]

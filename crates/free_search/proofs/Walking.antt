@@ -1,11 +1,10 @@
 -- A walk over a table's blocks, one by one.
-use Rattle.std.proofs.Common.{◌≡◌, ℕ, suc, ◌+◌, ◌-◌, ◌*◌, ◌<◌, ◌≤◌, Bool, true, false, leb, leb-true, leb-false, inl, inr, List, [], ◌∷◌, length, take, find, Option, Some, None, Ok, Err, refl, sym, ◌∙◌, ap, subst, arith}
-use Rattle.std.specs.Prelude.{Result, IfOk, IfErr}
+use Rattle.std.proofs.Common.{◌≡◌, ℕ, suc, ◌+◌, ◌-◌, ◌*◌, ◌<◌, ◌≤◌, Bool, true, false, leb, leb-true, leb-false, inl, inr, List, length, take, find, Option, Some, None, Ok, refl, sym, ◌∙◌, ap, subst, arith}
 use Rattle.seg_words.proofs.Lemmas.{cases_Bool}
 use Rattle.seg_words.specs.Types.{Shape, MOST_EXTENT_BLOCKS, head_blocks, is_shape}
 use Rattle.disk_model.specs.Crash.{Meaning}
 use Rattle.redo_model.specs.Records.{Record}
-use Rattle.redo_model.specs.Model.{Extent, extents_of, data_blocks, high_mark, under_high}
+use Rattle.redo_model.specs.Model.{Extent, extents_of, data_blocks, under_high}
 use Rattle.redo_laws.proofs.numbers.Bounds.{limits}
 use Rattle.space_laws.proofs.MarksLaw.{marks_are_in_order, tables_are_few}
 use Rattle.data_places.specs.Places.{data_count}
@@ -13,12 +12,12 @@ use Rattle.data_places.proofs.PlacesLaw.{counts_are_told}
 use Rattle.store_core.specs.Store.{Held, IsTrue}
 use Rattle.store_core.specs.Causes.{HasLooked, IsSoundFault}
 use Rattle.store_core.specs.declared.fault.StoreFault.{StoreFault}
-use Rattle.store_core.proofs.Lookups.{looked_on, looked_ok, looked_err, looked_same}
+use Rattle.store_core.proofs.Lookups.{looked_on, looked_ok, looked_same}
 use Rattle.free_search.specs.declared.look.Look.{Look}
 use Rattle.free_search.specs.declared.look.Wanted.{Wanted}
 use Rattle.free_search.specs.Looks.{Knows, IsFirstBlock, passes, passes_in, row_sought, found_if}
-use Rattle.free_search.specs.Walks.{NoneOf, IsFirstOf, FirstOf, NoneWithin, IsFirstWithin, FirstWithin}
-use Rattle.free_search.proofs.Known.{Fixed, fixed, knows_later}
+use Rattle.free_search.specs.Walks.{NoneOf, IsFirstOf, NoneWithin, FirstWithin}
+use Rattle.free_search.proofs.Known.{fixed, knows_later}
 use Rattle.free_search.proofs.Lists.{none_found, one_found, none_further, none_passed}
 
 -- ---- the blocks of one extent
@@ -35,15 +34,15 @@ pub record Tried {D : Type 0} (meaning : Meaning D) (a b : Held D) (l : Look) (w
 pub tried_none : {D : Type 0} (meaning : Meaning D) (a : Held D) (l : Look) (w : Wanted) (first from to : ℕ) → a.fault ≡ None → Tried meaning a a l w first from to from
 tried_none meaning a l w first from to n = record { looked = looked_same meaning a tt n; least = omega arith; none = λ R index e t k f h m i least below. absurd (omega (arith, least, below)) }
 
-not_found : (v : Bool) (b : ℕ) → None ≡ found_if v b → v ≡ false
+pub not_found : (v : Bool) (b : ℕ) → None ≡ found_if v b → v ≡ false
 not_found true b e = absurd (let z : ◌≡◌ {A = Option ℕ} None (Some b) = e in cc)
 not_found false b e = refl
 
-record WasFound (v : Bool) (b c : ℕ) : Type 0 where
-  passes : v ≡ true
-  block : c ≡ b
+pub record WasFound (v : Bool) (b c : ℕ) : Type 0 where
+  pub passes : v ≡ true
+  pub block : c ≡ b
 
-was_found : (v : Bool) (b c : ℕ) → Some c ≡ found_if v b → WasFound v b c
+pub was_found : (v : Bool) (b c : ℕ) → Some c ≡ found_if v b → WasFound v b c
 was_found true b c e = record { passes = refl; block = (let z : ◌≡◌ {A = Option ℕ} (Some c) (Some b) = e in cc) }
 was_found false b c e = absurd (let z : ◌≡◌ {A = Option ℕ} (Some c) None = e in cc)
 

@@ -1,5 +1,5 @@
 -- What a search answers.
-use Rattle.std.specs.Prelude.{◌≡◌, ℕ, List, Option, Some, None, Result, Ok, Err}
+use Rattle.std.specs.Prelude.{ℕ, List, Option, Some, None, Result, Ok, Err}
 use Rattle.seg_words.specs.Types.{Shape}
 use Rattle.redo_model.specs.Records.{Record}
 use Rattle.mark_laws.specs.declared.step.Found.{Found}

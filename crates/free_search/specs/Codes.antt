@@ -1,5 +1,5 @@
 -- What the code of a block says of it, and what only the block itself says.
-use Rattle.std.specs.Prelude.{ℕ, Bool, true, false, not, ◌&&◌, eqb, leb, List}
+use Rattle.std.specs.Prelude.{ℕ, Bool, not, ◌&&◌, leb, List}
 use Rattle.seg_words.specs.Types.{class_code, Full, Fs1}
 use Rattle.redo_model.specs.Records.{Record}
 use Rattle.redo_model.specs.Model.{pctfree_of, takes_row}
@@ -9,20 +9,9 @@ use Rattle.free_search.specs.declared.look.Wanted.TheVariants as wanted
 
 -- a block with this code may be what is wanted
 abbrev pub has_code : Wanted → ℕ → Bool
-has_code wanted.Unformatted code = eqb code 0
 has_code wanted.Usable code = leb (class_code Full) code
 has_code wanted.Good code = leb (class_code Fs1) code
-
-abbrev pub needs_room : Wanted → Bool
-needs_room wanted.Unformatted = false
-needs_room wanted.Usable = true
-needs_room wanted.Good = true
 
 -- a formatted block isn't left out, and takes the row
 abbrev pub room_for : List Record → Sought → ℕ → Bool
 room_for R q b = not (is_left_out q.but b) && takes_row R (pctfree_of R q.obj) b q.len q.taker
-
-abbrev pub has_room : List Record → Sought → Wanted → ℕ → Bool
-has_room R q wanted.Unformatted b = true
-has_room R q wanted.Usable b = room_for R q b
-has_room R q wanted.Good b = room_for R q b

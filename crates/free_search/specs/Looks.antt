@@ -2,14 +2,22 @@
 use Rattle.std.specs.Prelude.{◌≡◌, ℕ, Bool, true, false, not, ◌&&◌, cond, eqb, List, Option, Some, None}
 use Rattle.seg_words.specs.Types.{Shape, Taker, first_block}
 use Rattle.redo_model.specs.Records.{Record}
-use Rattle.redo_model.specs.Model.{Extent, extents_of, extent_at, in_extent, is_formatted, ended_in, IsTable}
+use Rattle.redo_model.specs.Model.{Extent, extents_of, extent_at, extent_data, in_extent, ended_in, IsTable}
 use Rattle.version_laws.specs.Types.{ended_by}
 use Rattle.mark_laws.specs.Searches.{Sought, is_usable, is_good}
+use Rattle.redo_laws.specs.Among.{is_in}
 use Rattle.segment_read.specs.Segments.{IsSegment}
+use Rattle.segment_read.specs.declared.segment.Segment.{Segment}
 use Rattle.free_search.specs.declared.look.Look.{Look}
 use Rattle.free_search.specs.declared.look.Row.{Row}
 use Rattle.free_search.specs.declared.look.Wanted.{Wanted}
 use Rattle.free_search.specs.declared.look.Wanted.TheVariants as wanted
+
+-- the shape k and the segment of one of its tables are read of a store of shape sh with the records R
+pub record HasSegment (sh : Shape) (R : List Record) (k : Shape) (s : Segment) : Type 0 where
+  pub shape : k ≡ sh
+  pub table : IsTable R s.obj
+  pub segment : IsSegment k R s.obj s
 
 -- what is read of a store of this shape with the records R
 pub record Knows (sh : Shape) (R : List Record) (l : Look) : Type 0 where
@@ -32,9 +40,16 @@ row_sought l = sought l.segment.obj l.row.len l.row.taker l.row.but
 
 -- the block is what is wanted
 abbrev pub passes : Shape → List Record → Sought → Wanted → ℕ → Bool
-passes sh R q wanted.Unformatted b = not (is_formatted sh R b)
 passes sh R q wanted.Usable b = is_usable sh R q b
 passes sh R q wanted.Good b = is_good sh R q b
+
+-- none of the data blocks of the extent, which has this index in its table, is what is wanted
+abbrev pub NoneIn : Shape → List Record → Sought → Wanted → ℕ → Extent → Type 0
+NoneIn sh R q w index e = (b : ℕ) → is_in b (extent_data sh index e.number) ≡ true → passes sh R q w b ≡ false
+
+-- none of them is good
+abbrev pub NoneGoodIn : Shape → List Record → Sought → ℕ → Extent → Type 0
+NoneGoodIn sh R q index e = NoneIn sh R q wanted.Good index e
 
 -- it stands in this extent, where there is one
 abbrev pub is_within : Shape → Option ℕ → ℕ → Bool

@@ -1,5 +1,9 @@
 -- The first block that passes, among those of an extent by their numbers, and among those of a table by their positions.
-use Rattle.std.specs.Prelude.{◌≡◌, ℕ, ◌+◌, ◌<◌, ◌≤◌, Bool, true, false, List, slice_get, Option, Some, None}
+use Rattle.std.specs.Prelude.{◌≡◌, ℕ, ◌+◌, ◌<◌, ◌≤◌, Bool, true, false, not, List, slice_get, Option, Some, None}
+use Rattle.seg_words.specs.Types.{Shape}
+use Rattle.redo_model.specs.Records.{Record}
+use Rattle.redo_model.specs.Model.{data_blocks, is_formatted}
+use Rattle.free_search.specs.Looks.{found_if}
 
 -- among the blocks of an extent that begins at block b, from one number on and below another
 abbrev pub NoneOf : (ℕ → Bool) → ℕ → ℕ → ℕ → Type 0
@@ -33,3 +37,9 @@ pub record IsFirstWithin (p : ℕ → Bool) (bs : List ℕ) (high from to b : �
 abbrev pub FirstWithin : (ℕ → Bool) → List ℕ → ℕ → ℕ → ℕ → Option ℕ → Type 0
 FirstWithin p bs high from to None = NoneWithin p bs high from to
 FirstWithin p bs high from to (Some b) = IsFirstWithin p bs high from to b
+
+-- the block at a position of a table's data blocks, where it isn't formatted
+pub record IsAtPosition (sh : Shape) (R : List Record) (o place : ℕ) (found : Option ℕ) : Type 0 where
+  pub block : ℕ
+  pub here : slice_get (data_blocks sh R o) place ≡ Some block
+  pub told : found ≡ found_if (not (is_formatted sh R block)) block

@@ -23,11 +23,9 @@ pub struct Row {
     pub but: [Option<Dba>; 2],
 }
 
-/// What a block is searched for.
+/// What a formatted block is searched for.
 #[derive(Clone, Copy, Debug, PartialEq, Eq, Drop)]
 pub enum Wanted {
-    /// It isn't formatted.
-    Unformatted,
     /// It takes the row.
     Usable,
     /// It takes the row, and its kept class is one from Fs1 to Fs4.

@@ -10,8 +10,9 @@ ghost use Rattle.mark_laws.specs.Searches.{is_left_out};
 ghost use Rattle.store_core.specs.Causes.{HasLooked, IsSoundFault};
 ghost use Rattle.store_core.specs.Store.{IsFetched, IsTrue};
 ghost use Rattle.free_search.specs.Looks.{IsFirstBlock, Knows, found_if, passes, row_sought};
-ghost use Rattle.free_search.specs.Codes.{has_code, needs_room, room_for};
+ghost use Rattle.free_search.specs.Codes.{has_code, room_for};
 
+use crate::extent::nth_block;
 use crate::look::{Look, Wanted};
 use disk_model::Disk;
 use page_set::Page;
@@ -99,30 +100,13 @@ fn room_at<D: Disk>(store: &mut Store<D>, look: &Look, dba: Dba) -> Result<Optio
 }
 
 /// Whether a block with this code may be what is wanted.
-fn has_code(wanted: &Wanted, code: u8) -> bool
+pub fn has_code(wanted: &Wanted, code: u8) -> bool
     ensures { result ≡ has_code wanted.now code }
 {
     match wanted {
-        Wanted::Unformatted => code == 0,
         Wanted::Usable => code >= 1,
         Wanted::Good => code >= 2,
     }
-}
-
-fn needs_room(wanted: &Wanted) -> bool
-    ensures { result ≡ needs_room wanted.now }
-{
-    match wanted {
-        Wanted::Unformatted => false,
-        Wanted::Usable | Wanted::Good => true,
-    }
-}
-
-fn nth_block(first: Dba, nth: u16) -> Dba
-    requires { first ≤ MOST_BLOCKS }
-    ensures { result ≡ first + nth }
-{
-    Dba(first.0 + u32::from(nth))
 }
 
 /// The nth block of an extent that begins at this block, where it is what is wanted. It is a data block of the table.
@@ -147,9 +131,5 @@ pub fn block_at<D: Disk>(
     if !has_code(wanted, code) {
         return Ok(None);
     }
-    let dba = nth_block(first, nth);
-    if needs_room(wanted) {
-        return room_at(store, look, dba);
-    }
-    Ok(Some(dba))
+    room_at(store, look, nth_block(first, nth))
 }

@@ -13,7 +13,7 @@ ghost use Rattle.free_search.specs.Looks.{Knows, row_sought, sought};
 
 use crate::FindFault;
 use crate::look::{Look, Row, Wanted, look_at};
-use crate::mark::next_mark;
+use crate::mark::next_of_segment;
 use crate::walk::first_in_table;
 use disk_model::Disk;
 use mark_laws::Found;
@@ -86,7 +86,7 @@ fn last_resort<D: Disk>(store: &mut Store<D>, look: &Look) -> Result<Option<Foun
     ensures says { (R : List Record) → IsTrue D.meaning R store.old → Knows store.old.shape R look.now → IfOk result (λ f. f ≡ mark_or (next_mark look.now.shape R look.now.segment.obj) (block_or (find (is_usable look.now.shape R (row_sought look.now)) (under_high look.now.shape R look.now.segment.obj)) None)) }
     ensures sound { (R : List Record) → IsTrue D.meaning R store.old → Knows store.old.shape R look.now → IfErr result IsSoundFault }
 {
-    match next_mark(store, look) {
+    match next_of_segment(store, &look.segment, &look.shape) {
         Ok(Some(step)) => Ok(Some(Found::Mark(step))),
         Ok(None) => usable_block(store, look),
         Err(fault) => Err(fault),

@@ -1,16 +1,17 @@
 // The first block of a table that is what is wanted, in order of position: extent by extent, by the codes of their bitmaps.
-ghost use Rattle.std.specs.Prelude.{ℕ, ◌≡◌, ◌≤◌, ◌<◌, ◌+◌, ◌-◌, min, true, None, List, length, find, IfOk, IfErr};
+ghost use Rattle.std.specs.Prelude.{ℕ, ◌≡◌, ◌≤◌, ◌<◌, ◌+◌, ◌-◌, min, true, false, None, Some, List, length, find, IfOk, IfErr};
 ghost use Rattle.seg_words.specs.Types.{MOST_BLOCKS, MOST_EXTENT_BLOCKS, MOST_PCTFREE, head_blocks as heads_of, is_shape};
 ghost use Rattle.redo_model.specs.Records.{Record};
-ghost use Rattle.redo_model.specs.Model.{Extent, data_blocks, extents_of, high_mark, under_high};
+ghost use Rattle.redo_model.specs.Model.{Extent, data_blocks, extent_at, extents_of, high_mark, under_high};
 ghost use Rattle.data_places.specs.Places.{data_count};
 ghost use Rattle.store_core.specs.Causes.{HasLooked, IsSoundFault};
 ghost use Rattle.store_core.specs.Store.{IsTrue};
-ghost use Rattle.free_search.specs.Looks.{IsFirstBlock, Knows, is_elsewhere, passes, passes_in, row_sought};
+ghost use Rattle.free_search.specs.Looks.{IsFirstBlock, Knows, NoneGoodIn, NoneIn, is_elsewhere, passes, passes_in, row_sought};
 ghost use Rattle.free_search.specs.Walks.{FirstOf, FirstWithin};
 
+use crate::extent::best_at;
 use crate::look::{Look, Wanted};
-use crate::place::block_at;
+use crate::place::{block_at, has_code};
 use data_places::{block_in, head_blocks};
 use disk_model::Disk;
 use seg_base::{Dba, Shape};
@@ -42,6 +43,65 @@ fn first_in_blocks<D: Disk>(
         }
     }
     Ok(None)
+}
+
+/// Whether the extent at an index may have a block with a kept class from Fs1 to Fs4, by its second level.
+fn may_have_good<D: Disk>(store: &mut Store<D>, look: &Look, index: u16) -> Result<bool, StoreFault>
+    requires shape { is_shape look.now.shape ≡ true }
+    requires unspent { store.old.fault ≡ None }
+    ensures looked { HasLooked D.meaning store.old store.new result }
+    ensures says { (R : List Record) (e : Extent) → IsTrue D.meaning R store.old → Knows store.old.shape R look.now → extent_at (extents_of R look.now.segment.obj) index ≡ Some e → IfOk result (λ y. y ≡ false → NoneGoodIn look.now.shape R (row_sought look.now) index e) }
+    ensures sound { (R : List Record) → IsTrue D.meaning R store.old → Knows store.old.shape R look.now → index < length (extents_of R look.now.segment.obj) → IfErr result IsSoundFault }
+{
+    match best_at(store, &look.segment, &look.shape, index) {
+        Ok(best) => Ok(has_code(&Wanted::Good, best)),
+        Err(fault) => Err(fault),
+    }
+}
+
+/// Whether the extent at an index may have a block that is wanted.
+fn may_have<D: Disk>(
+    store: &mut Store<D>,
+    look: &Look,
+    wanted: &Wanted,
+    index: u16,
+) -> Result<bool, StoreFault>
+    requires shape { is_shape look.now.shape ≡ true }
+    requires unspent { store.old.fault ≡ None }
+    ensures looked { HasLooked D.meaning store.old store.new result }
+    ensures says { (R : List Record) (e : Extent) → IsTrue D.meaning R store.old → Knows store.old.shape R look.now → extent_at (extents_of R look.now.segment.obj) index ≡ Some e → IfOk result (λ y. y ≡ false → NoneIn look.now.shape R (row_sought look.now) wanted.now index e) }
+    ensures sound { (R : List Record) → IsTrue D.meaning R store.old → Knows store.old.shape R look.now → index < length (extents_of R look.now.segment.obj) → IfErr result IsSoundFault }
+{
+    match wanted {
+        Wanted::Usable => Ok(true),
+        Wanted::Good => may_have_good(store, look, index),
+    }
+}
+
+/// The same in the extent at this index, which is passed over where its second level says that it has none.
+fn first_there<D: Disk>(
+    store: &mut Store<D>,
+    look: &Look,
+    wanted: &Wanted,
+    index: u16,
+    first: Dba,
+    from: u16,
+    to: u16,
+) -> Result<Option<Dba>, StoreFault>
+    requires shape { is_shape look.now.shape ≡ true }
+    requires percent { look.now.segment.pctfree ≤ MOST_PCTFREE }
+    requires first { first ≤ MOST_BLOCKS }
+    requires few { to ≤ MOST_EXTENT_BLOCKS }
+    requires unspent { store.old.fault ≡ None }
+    ensures looked { HasLooked D.meaning store.old store.new result }
+    ensures says { (R : List Record) (e : Extent) → IsTrue D.meaning R store.old → Knows store.old.shape R look.now → IsFirstBlock look.now.shape R look.now.segment.obj index e first → heads_of index ≤ from → to ≤ look.now.shape.extent → IfOk result (FirstOf (passes look.now.shape R (row_sought look.now) wanted.now) first from to) }
+    ensures sound { (R : List Record) (e : Extent) → IsTrue D.meaning R store.old → Knows store.old.shape R look.now → IsFirstBlock look.now.shape R look.now.segment.obj index e first → heads_of index ≤ from → to ≤ look.now.shape.extent → IfErr result IsSoundFault }
+{
+    match may_have(store, look, wanted, index) {
+        Ok(true) => first_in_blocks(store, look, wanted, first, from, to),
+        Ok(false) => Ok(None),
+        Err(fault) => Err(fault),
+    }
 }
 
 /// Whether blocks of another extent alone are wanted.
@@ -103,7 +163,7 @@ fn first_in_extent<D: Disk>(
     };
     let head = head_blocks(index);
     let count = room_under(look, index, passed);
-    first_in_blocks(store, look, wanted, first, head, head + count)
+    first_there(store, look, wanted, index, first, head, head + count)
 }
 
 /// The first one of a table under its high mark, in one extent alone where that is given by its number.

@@ -1,10 +1,10 @@
-use Rattle.std.proofs.Common.{◌≡◌, ℕ, ◌+◌, IfOk, Option, Some, ◌∙◌, sym, ap, subst}
+use Rattle.std.proofs.Common.{◌≡◌, ℕ, ◌+◌, IfOk, Option, ◌∙◌, sym, subst}
 use Rattle.redo_model.specs.Model.{IsRowBlock}
 use Rattle.store_core.proofs.Lookups.{looked_on, looked_ok}
 use Rattle.free_search.specs.Looks.{found_if, row_sought}
 use Rattle.free_search.specs.Codes.{room_for}
 use Rattle.free_search.proofs.Known.{fixed, knows_later}
-use Rattle.free_search.proofs.Codes.{no_code, code_alone, with_room, code_formatted}
+use Rattle.free_search.proofs.Codes.{no_code, with_room, code_formatted}
 use Rattle.free_search.proofs.Extents.{row_block, first_given, code_told}
 use Rattle.free_search.proofs.place.block_at.Goals as goal
 
@@ -21,39 +21,28 @@ returns-then-not-has_code-clause-says g c = λ R index e t k f least u.
     (code_told g.D.Disk.meaning c.args.store.now R l index c.args.first c.args.nth c.in-Ok.code e t k f least u (λ Q o i x q at is m. c.in-Ok.ensures.says Q o i x q at is m))
     (sym c.has_code.ensures ∙ c.if-not-has_code.true)
 
-pub returns-then-needs_room-clause-looked : goal.returns-then-needs_room-clause-looked
-returns-then-needs_room-clause-looked g c = looked_on g.D.Disk.meaning c.args.store.now c.code_at.new.store c.room_at.new.store c.in-Ok.code c.room_at.result c.in-Ok.ensures.looked c.room_at.ensures.looked
-
-pub returns-then-needs_room-clause-says : goal.returns-then-needs_room-clause-says
-returns-then-needs_room-clause-says g c = λ R index e t k f least u.
-    let l = c.args.look.now in
-    let b = c.args.first + c.args.nth in
-    let same = c.nth_block-dba.ensures in
-    let known = fixed g.D.Disk.meaning c.args.store.now R l t k in
-    let code = code_told g.D.Disk.meaning c.args.store.now R l index c.args.first c.args.nth c.in-Ok.code e t k f least u (λ Q o i x q at is m. c.in-Ok.ensures.says Q o i x q at is m) in
-    let has = sym c.has_code.ensures ∙ c.if-not-has_code.false in
-    let needs = sym c.needs_room.ensures ∙ c.if-needs_room.true in
-    let row = row_block R l index e c.args.first c.args.nth known f least u (code_formatted l.shape R c.args.wanted.now b c.in-Ok.code known.lawful.allowed code has needs) in
-    subst (λ (v : Option ℕ). IfOk c.room_at.result (λ r. r ≡ v)) (with_room l.shape R (row_sought l) c.args.wanted.now b c.in-Ok.code known.lawful.allowed code has needs)
-    (subst (λ (d : ℕ). IfOk c.room_at.result (λ r. r ≡ found_if (room_for R (row_sought l) d) d)) same
-    (c.room_at.ensures.says R (c.in-Ok.ensures.looked.stays_true R t) (knows_later g.D.Disk.meaning c.args.store.now c.code_at.new.store R l c.in-Ok.ensures.looked.loan k)
-    (subst (λ (d : ℕ). IsRowBlock l.shape R l.segment.obj d) (sym same) row)))
-
-pub returns-then-needs_room-clause-sound : goal.returns-then-needs_room-clause-sound
-returns-then-needs_room-clause-sound g c = λ R index e t k f least u n.
-    let l = c.args.look.now in
-    let known = fixed g.D.Disk.meaning c.args.store.now R l t k in
-    let code = code_told g.D.Disk.meaning c.args.store.now R l index c.args.first c.args.nth c.in-Ok.code e t k f least u (λ Q o i x q at is m. c.in-Ok.ensures.says Q o i x q at is m) in
-    let row = row_block R l index e c.args.first c.args.nth known f least u (code_formatted l.shape R c.args.wanted.now (c.args.first + c.args.nth) c.in-Ok.code known.lawful.allowed code (sym c.has_code.ensures ∙ c.if-not-has_code.false) (sym c.needs_room.ensures ∙ c.if-needs_room.true)) in
-    c.room_at.ensures.sound R (c.in-Ok.ensures.looked.stays_true R t) (knows_later g.D.Disk.meaning c.args.store.now c.code_at.new.store R l c.in-Ok.ensures.looked.loan k)
-    (subst (λ (d : ℕ). IsRowBlock l.shape R l.segment.obj d) (sym c.nth_block-dba.ensures) row)
-
 pub returns-clause-looked : goal.returns-clause-looked
-returns-clause-looked g c = looked_ok g.D.Disk.meaning c.args.store.now c.code_at.new.store c.in-Ok.code _ c.in-Ok.ensures.looked
+returns-clause-looked g c = looked_on g.D.Disk.meaning c.args.store.now c.code_at.new.store c.room_at.new.store c.in-Ok.code c.room_at.result c.in-Ok.ensures.looked c.room_at.ensures.looked
 
 pub returns-clause-says : goal.returns-clause-says
 returns-clause-says g c = λ R index e t k f least u.
     let l = c.args.look.now in
-    ap (λ (d : ℕ). Some d) c.nth_block-dba.ensures ∙ code_alone l.shape R (row_sought l) c.args.wanted.now (c.args.first + c.args.nth) c.in-Ok.code (fixed g.D.Disk.meaning c.args.store.now R l t k).lawful.allowed
-    (code_told g.D.Disk.meaning c.args.store.now R l index c.args.first c.args.nth c.in-Ok.code e t k f least u (λ Q o i x q at is m. c.in-Ok.ensures.says Q o i x q at is m))
-    (sym c.has_code.ensures ∙ c.if-not-has_code.false) (sym c.needs_room.ensures ∙ c.if-needs_room.false)
+    let b = c.args.first + c.args.nth in
+    let same = c.nth_block.ensures in
+    let known = fixed g.D.Disk.meaning c.args.store.now R l t k in
+    let code = code_told g.D.Disk.meaning c.args.store.now R l index c.args.first c.args.nth c.in-Ok.code e t k f least u (λ Q o i x q at is m. c.in-Ok.ensures.says Q o i x q at is m) in
+    let has = sym c.has_code.ensures ∙ c.if-not-has_code.false in
+    let row = row_block R l index e c.args.first c.args.nth known f least u (code_formatted l.shape R c.args.wanted.now b c.in-Ok.code known.lawful.allowed code has) in
+    subst (λ (v : Option ℕ). IfOk c.room_at.result (λ r. r ≡ v)) (with_room l.shape R (row_sought l) c.args.wanted.now b c.in-Ok.code known.lawful.allowed code has)
+    (subst (λ (d : ℕ). IfOk c.room_at.result (λ r. r ≡ found_if (room_for R (row_sought l) d) d)) same
+    (c.room_at.ensures.says R (c.in-Ok.ensures.looked.stays_true R t) (knows_later g.D.Disk.meaning c.args.store.now c.code_at.new.store R l c.in-Ok.ensures.looked.loan k)
+    (subst (λ (d : ℕ). IsRowBlock l.shape R l.segment.obj d) (sym same) row)))
+
+pub returns-clause-sound : goal.returns-clause-sound
+returns-clause-sound g c = λ R index e t k f least u n.
+    let l = c.args.look.now in
+    let known = fixed g.D.Disk.meaning c.args.store.now R l t k in
+    let code = code_told g.D.Disk.meaning c.args.store.now R l index c.args.first c.args.nth c.in-Ok.code e t k f least u (λ Q o i x q at is m. c.in-Ok.ensures.says Q o i x q at is m) in
+    let row = row_block R l index e c.args.first c.args.nth known f least u (code_formatted l.shape R c.args.wanted.now (c.args.first + c.args.nth) c.in-Ok.code known.lawful.allowed code (sym c.has_code.ensures ∙ c.if-not-has_code.false)) in
+    c.room_at.ensures.sound R (c.in-Ok.ensures.looked.stays_true R t) (knows_later g.D.Disk.meaning c.args.store.now c.code_at.new.store R l c.in-Ok.ensures.looked.loan k)
+    (subst (λ (d : ℕ). IsRowBlock l.shape R l.segment.obj d) (sym c.nth_block.ensures) row)

@@ -1,4 +1,4 @@
-use Rattle.std.proofs.Common.{◌≡◌, ℕ, Option, None, Some, find, IfOk, ◌∙◌, sym, ap, subst}
+use Rattle.std.proofs.Common.{◌≡◌, ℕ, Option, find, IfOk, ◌∙◌, sym, ap, subst}
 use Rattle.redo_model.specs.Model.{under_high}
 use Rattle.mark_laws.specs.Searches.{is_good}
 use Rattle.store_core.proofs.Lookups.{looked_on}

@@ -1,4 +1,4 @@
-use Rattle.std.proofs.Common.{◌≡◌, ℕ, Option, Some, IfOk, sym, subst}
+use Rattle.std.proofs.Common.{◌≡◌, ℕ, Option, IfOk, sym, subst}
 use Rattle.mark_laws.specs.Searches.{first_hinted}
 use Rattle.store_core.proofs.Lookups.{looked_same}
 use Rattle.free_search.specs.Looks.{row_sought}

@@ -1,5 +1,4 @@
 use Rattle.std.proofs.Common.{◌∙◌, sym}
-use Rattle.std.specs.Prelude.{Result, Ok, Err}
 use Rattle.store_core.proofs.Lookups.{looked_on, looked_ok}
 use Rattle.free_search.proofs.Known.{knows_later}
 use Rattle.free_search.proofs.Extents.{ok_map}

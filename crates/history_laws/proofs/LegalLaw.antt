@@ -17,7 +17,7 @@ use Rattle.history_model.specs.History.{statement_of, reached, owner}
 use Rattle.history_model.specs.Makes.{Makes}
 use Rattle.history_model.specs.Legal.{BelongsTo, Belongs, IsCalledBy, IsMade, AreMade, made_none, made_one, AreTold, IsLegal}
 use Rattle.history_laws.specs.Events.{Does, DoesAlone, MayAdd, Goes, goes_none, goes_one}
-use Rattle.history_laws.specs.Keeping.{StartsAreLegal, RecordsAreLegal, EntriesAreLegal, is_of_one, RecordsBelong}
+use Rattle.history_laws.specs.Keeping.{StartsAreLegal, RecordsAreLegal, EntriesAreLegal, is_of_one, RecordsBelong, MovesBelong}
 use Rattle.history_laws.proofs.Told.{told_more}
 use Rattle.history_laws.proofs.Owned.{owner_way, start_same, entry_same, owner_under, reached_within, ways_are_known}
 
@@ -236,3 +236,6 @@ of_one sh scripts T Q r e h = h
 
 pub records_belong : RecordsBelong
 records_belong sh scripts R0 Q R T r one h e l = of_one sh scripts T Q r one (made_at sh scripts R0 Q T r R h.made e l)
+
+pub moves_belong : MovesBelong
+moves_belong sh scripts R0 Q R T m w task name compact b s o e t = sym (b.alone w (record { session = s; task = task; owned = o; makes = subst (λ (st : Option Statement). Makes sh scripts task.past w st Q (made.Move m)) (sym e) t }))

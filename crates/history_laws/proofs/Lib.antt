@@ -15,4 +15,5 @@ pub mod ScanRefusals
 pub mod Ways
 pub mod Changing
 pub mod Acting
+pub mod OneEvent
 pub mod Answered

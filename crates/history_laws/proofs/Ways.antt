@@ -2,7 +2,7 @@
 use Rattle.std.proofs.Common.{◌≡◌, ℕ, ◌≤◌, Bool, true, false, List, [], ◌∷◌, Option, Some, None, refl, sym, ◌∙◌, subst, le_trans, le_refl}
 use Rattle.seg_words.specs.Types.{Shape}
 use Rattle.redo_model.specs.Records.{Record}
-use Rattle.redo_model.specs.Model.{is_active}
+use Rattle.redo_model.specs.Model.{is_active, IsLawful}
 use Rattle.session_laws.proofs.OwnersLaw.{sessions_own_transactions}
 use Rattle.script_text.specs.declared.statement.Statement.{Statement}
 use Rattle.script_text.specs.declared.statement.Statement.TheVariants as asked
@@ -10,9 +10,9 @@ use Rattle.history_model.specs.declared.history.HistoryItem.{HistoryItem}
 use Rattle.history_model.specs.declared.history.HistoryItem.TheVariants as item
 use Rattle.history_model.specs.History.{AreInTime}
 use Rattle.history_model.specs.SoFar.{IsUnlowered}
-use Rattle.history_model.specs.Legal.{IsLegal}
+use Rattle.history_model.specs.Legal.{made_none, IsLegal}
 use Rattle.history_laws.specs.Working.{Work, Inserting, OnRow, TakingBack, Scanning, Shrinking, Lowering}
-use Rattle.history_laws.specs.Ways.{WorksGoOn, RunsEnd, Starts, starts_none, starts_one, Ends, ends_none, ends_one, EventsKeep}
+use Rattle.history_laws.specs.Ways.{WorksGoOn, RunsEnd, Starts, starts_none, starts_one, Ends, ends_none, ends_one, run_none, run_event, IsRun, EventKeeps, EventsKeep, RunsAreLegal}
 use Rattle.history_laws.proofs.Owned.{none_some, same_some}
 use Rattle.history_laws.proofs.LegalLaw.{records_are_legal}
 use Rattle.history_laws.proofs.Telling.{starts_keep, entries_keep}
@@ -65,3 +65,12 @@ events_keep sh scripts w was before now R0 Q R T U a l e h t = record {
   legal = end_legal sh scripts R0 R w was now e.begun U e.ends (records_are_legal sh scripts R0 Q R e.begun w a e.goes (start_legal sh scripts R0 Q w T e.begun e.starts h));
   in_time = end_time sh scripts R w was now e.begun U e.ends (start_time scripts Q w now T e.begun e.starts (time_later before now T l t));
 }
+
+run_legal : (sh : Shape) (scripts : List (List Statement)) (R0 : List Record) (first : ℕ) (R : List Record) (T : List HistoryItem) (now : ℕ) → IsLawful sh R0 → IsRun sh scripts R0 first R T now → EventKeeps sh scripts R0 R T now
+run_legal sh scripts R0 first R T now a run_none = record { legal = record { lawful = a; made = made_none; told = tt }; in_time = tt }
+run_legal sh scripts R0 first S V m a (run_event w was before now Q R T U r l b e) =
+    let k = run_legal sh scripts R0 first Q T before a r in
+    events_keep sh scripts w was before now R0 Q R T U b l e k.legal k.in_time
+
+pub runs_are_legal : RunsAreLegal
+runs_are_legal sh scripts R0 R T first now a r = run_legal sh scripts R0 first R T now a r

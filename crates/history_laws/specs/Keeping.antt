@@ -2,15 +2,16 @@
 use Rattle.std.specs.Prelude.{◌≡◌, ℕ, suc, ◌+◌, ◌≤◌, Bool, true, false, ◌&&◌, cond, eqb, leb, ltb, List, [], ◌∷◌, length, Option, Some, None}
 use Rattle.seg_words.specs.Types.{Shape}
 use Rattle.redo_record.specs.declared.record.Record.TheVariants as made
-use Rattle.redo_model.specs.Records.{Record}
-use Rattle.redo_model.specs.Model.{Extends, IsLawful}
+use Rattle.redo_model.specs.Records.{Record, MoveRecord}
+use Rattle.redo_model.specs.Model.{Extends, IsLawful, table_named}
 use Rattle.script_text.specs.declared.statement.Statement.{Statement}
+use Rattle.script_text.specs.declared.statement.Statement.TheVariants as asked
 use Rattle.history_text.specs.declared.entry.Entry.{Entry}
 use Rattle.history_model.specs.declared.history.Start.{Start}
 use Rattle.history_model.specs.declared.history.Kept.{Kept}
 use Rattle.history_model.specs.declared.history.HistoryItem.{HistoryItem}
 use Rattle.history_model.specs.declared.history.HistoryItem.TheVariants as item
-use Rattle.history_model.specs.History.{Task, IsSession, under_way, owner}
+use Rattle.history_model.specs.History.{Task, IsSession, statement_of, under_way, owner}
 use Rattle.history_model.specs.Legal.{Belongs, StartStands, EntryStands, AreTold, IsLegal}
 use Rattle.history_laws.specs.Events.{Goes}
 
@@ -79,3 +80,9 @@ is_of_one _ = false
 abbrev pub RecordsBelong : Type 0
 RecordsBelong =
     (sh : Shape) (scripts : List (List Statement)) (R0 Q R : List Record) (T : List HistoryItem) (r : Record) → is_of_one r ≡ true → IsLegal sh scripts R0 R T → Extends (r ∷ Q) R → length R0 ≤ length Q → Belongs sh scripts T Q r
+
+-- and so does a Move of a table in the range of a shrink of it: also where the shrink is refused
+abbrev pub MovesBelong : Type 0
+MovesBelong =
+    (sh : Shape) (scripts : List (List Statement)) (R0 Q R : List Record) (T : List HistoryItem) (m : MoveRecord) (w : ℕ) (task : Task) (name : List ℕ) (compact : Bool) (b : Belongs sh scripts T Q (made.Move m)) → IsSession scripts w → owner T w (length Q) ≡ Some task
+    → statement_of scripts w task.place ≡ Some (asked.Shrink name compact) → table_named Q name ≡ Some m.obj → b.session ≡ w

@@ -13,3 +13,4 @@ pub mod ScanRefusals
 pub mod Ways
 pub mod Changing
 pub mod Acting
+pub mod OneEvent

@@ -1,5 +1,5 @@
 -- A run between its events, and one event of it, as a world of sessions promises them. This engine's own.
-use Rattle.std.specs.Prelude.{◌≡◌, ℕ, ◌≤◌, List, ◌∷◌, MatchOption, Option, Some, None}
+use Rattle.std.specs.Prelude.{◌≡◌, ℕ, ◌≤◌, List, [], ◌∷◌, MatchOption, Option, Some, None}
 use Rattle.seg_words.specs.Types.{Shape}
 use Rattle.redo_model.specs.Records.{Record}
 use Rattle.redo_model.specs.Model.{IsLawful}
@@ -57,6 +57,12 @@ pub record IsEvent (sh : Shape) (scripts : List (List Statement)) (w : ℕ) (was
   pub goes : Goes sh scripts begun w Q R
   pub ends : Ends sh scripts R w was now begun U
 
+-- What a call's events made, one after the other, of the records that it found, from this moment of the disk's clock on: so each
+-- start and each entry has the numbers and the moment that it had, whether the last event came to its end or not.
+pub data IsRun (sh : Shape) (scripts : List (List Statement)) (R0 : List Record) (first : ℕ) : List Record → List HistoryItem → ℕ → Type 0 where
+  run_none : IsRun sh scripts R0 first R0 [] first
+  run_event : (w : ℕ) (was : Option Work) (before now : ℕ) (Q R : List Record) (T U : List HistoryItem) → IsRun sh scripts R0 first Q T before → before ≤ now → IsLawful sh R → IsEvent sh scripts w was now Q T R U → IsRun sh scripts R0 first R U now
+
 -- it keeps the history legal, and its moments in order
 pub record EventKeeps (sh : Shape) (scripts : List (List Statement)) (R0 R : List Record) (U : List HistoryItem) (now : ℕ) : Type 0 where
   pub legal : IsLegal sh scripts R0 R U
@@ -66,3 +72,7 @@ abbrev pub EventsKeep : Type 0
 EventsKeep =
     (sh : Shape) (scripts : List (List Statement)) (w : ℕ) (was : Option Work) (before now : ℕ) (R0 Q R : List Record) (T U : List HistoryItem) → IsLawful sh R → before ≤ now → IsEvent sh scripts w was now Q T R U → IsLegal sh scripts R0 Q T
     → AreInTime before T → EventKeeps sh scripts R0 R U now
+
+-- so a run's history is legal
+abbrev pub RunsAreLegal : Type 0
+RunsAreLegal = (sh : Shape) (scripts : List (List Statement)) (R0 R : List Record) (T : List HistoryItem) (first now : ℕ) → IsLawful sh R0 → IsRun sh scripts R0 first R T now → EventKeeps sh scripts R0 R T now

@@ -5,7 +5,8 @@
 ghost use Rattle.history_laws.specs.Acting.{BacksBegin, BacksEnd, BacksGo, InsertsMove, MarksLeaveWork, RowsAreFound, RowsBegin, UpdatesMove};
 ghost use Rattle.history_laws.specs.Answered.{BusyAnswers, NeedsSeek, SpentDeletes, SpentUpdates, TakenAnswers};
 ghost use Rattle.history_laws.specs.Changing.{DeletesTell, InsertsTell, UpdatesTell};
-ghost use Rattle.history_laws.specs.Keeping.{EntriesAreLegal, EntriesStay, OwnersAreOne, RecordsAreLegal, RecordsBelong, StartsAreLegal, WaysAreKnown};
+ghost use Rattle.history_laws.specs.Keeping.{EntriesAreLegal, EntriesStay, MovesBelong, OwnersAreOne, RecordsAreLegal, RecordsBelong, StartsAreLegal, WaysAreKnown};
+ghost use Rattle.history_laws.specs.OneEvent.{CommitsTell, FixedTell, FixesTell, MovementsTell, TablesTell};
 ghost use Rattle.history_laws.specs.Others.{EventsLeaveTransactions, EventsLeaveWork, RecordsLeaveWork};
 ghost use Rattle.history_laws.specs.Passes.{AcceptedPasses, FirstIsRefused, FirstPassStays};
 ghost use Rattle.history_laws.specs.Refusals.{AgainIsRefused, BusyIsRefused, EntriesPass, FoundPass, InsertsPass, MaxExtentsIsRefused, NoExtentIsRefused, NoRowIsRefused, NoSlotIsRefused, NoSpaceIsRefused, UndoFullIsRefused, WritesPass};
@@ -13,7 +14,7 @@ ghost use Rattle.history_laws.specs.ScanRefusals.{LostAreRefused, MarkedAreRefus
 ghost use Rattle.history_laws.specs.Shrinks.{CompactsMean, CursorsCome, CursorsPass, CursorsStop, LastExtentsStay, LowersMean, ShrinksAreSpent, ShrinksBegin, ShrinksMove, ShrinksSkip, ShrinksStop, StaysMean, StopsAreRight};
 ghost use Rattle.history_laws.specs.Starts.{StartsEnd, StartsGoOn};
 ghost use Rattle.history_laws.specs.Telling.{EntriesKeep, OthersAreTold, OwnIsTold, SpansBegin, StartsKeep};
-ghost use Rattle.history_laws.specs.Ways.{EventsKeep, RunsEnd, WorksGoOn};
+ghost use Rattle.history_laws.specs.Ways.{EventsKeep, RunsAreLegal, RunsEnd, WorksGoOn};
 ghost use Rattle.history_laws.specs.Scans.{EmptyScansMean, MarksMean, ScansMean, ScansOpen, ScansRead};
 
 /// What each start and each entry says of some records it says of every list that begins with them, whatever was added: so an
@@ -375,4 +376,39 @@ pub fn backs_go()
 /// And tells that it has ended the transaction.
 pub fn backs_end()
     ensures { BacksEnd }
+{}
+
+/// A table tells its Table and its Extend.
+pub fn tables_tell()
+    ensures { TablesTell }
+{}
+
+/// A movement tells its record.
+pub fn movements_tell()
+    ensures { MovementsTell }
+{}
+
+/// A commit tells its Commit.
+pub fn commits_tell()
+    ensures { CommitsTell }
+{}
+
+/// A fix tells its Class.
+pub fn fixes_tell()
+    ensures { FixesTell }
+{}
+
+/// Or that the block is kept so already.
+pub fn fixed_tell()
+    ensures { FixedTell }
+{}
+
+/// What events made, one after the other, is legal, with the begins, the ends and the moments that they had.
+pub fn runs_are_legal()
+    ensures { RunsAreLegal }
+{}
+
+/// A Move of a table in the range of a shrink of it is the shrink's.
+pub fn moves_belong()
+    ensures { MovesBelong }
 {}

@@ -1,19 +1,20 @@
 -- A run between its events, and what an event keeps.
-use Rattle.std.proofs.Common.{◌≡◌, ℕ, ◌≤◌, Bool, true, false, List, [], ◌∷◌, Option, Some, None, refl, sym, ◌∙◌, subst, le_trans, le_refl}
+use Rattle.std.proofs.Common.{◌≡◌, ℕ, ◌≤◌, Bool, true, false, List, [], ◌∷◌, length, Option, Some, None, refl, sym, ◌∙◌, ap, subst, le_trans, le_refl}
 use Rattle.seg_words.specs.Types.{Shape}
 use Rattle.redo_model.specs.Records.{Record}
 use Rattle.redo_model.specs.Model.{is_active, IsLawful}
+use Rattle.session_laws.specs.Sessions.{own_of, backed_of, own_backed}
 use Rattle.session_laws.proofs.OwnersLaw.{sessions_own_transactions}
 use Rattle.script_text.specs.declared.statement.Statement.{Statement}
 use Rattle.script_text.specs.declared.statement.Statement.TheVariants as asked
 use Rattle.history_model.specs.declared.history.HistoryItem.{HistoryItem}
 use Rattle.history_model.specs.declared.history.HistoryItem.TheVariants as item
-use Rattle.history_model.specs.History.{AreInTime}
+use Rattle.history_model.specs.History.{under_way, AreInTime}
 use Rattle.history_model.specs.SoFar.{IsUnlowered}
 use Rattle.history_model.specs.Legal.{made_none, IsLegal}
 use Rattle.history_laws.specs.Working.{Work, Inserting, OnRow, TakingBack, Scanning, Shrinking, Lowering}
-use Rattle.history_laws.specs.Ways.{WorksGoOn, RunsEnd, Starts, starts_none, starts_one, Ends, ends_none, ends_one, run_none, run_event, IsRun, EventKeeps, EventsKeep, RunsAreLegal}
-use Rattle.history_laws.proofs.Owned.{none_some, same_some}
+use Rattle.history_laws.specs.Ways.{WorksGoOn, SessionsRun, RunsEnd, Starts, starts_none, starts_one, Ends, ends_none, ends_one, run_none, run_event, IsRun, EventKeeps, EventsKeep, RunsAreLegal}
+use Rattle.history_laws.proofs.Owned.{none_some, same_some, ways_are_known}
 use Rattle.history_laws.proofs.LegalLaw.{records_are_legal}
 use Rattle.history_laws.proofs.Telling.{starts_keep, entries_keep}
 
@@ -27,6 +28,19 @@ works_go_on sh x (Some (asked.Scan name)) (Scanning s) f h = record { more = ref
 works_go_on sh x (Some (asked.Shrink name compact)) (Shrinking k) f h = record { more = refl; first = f; so_far = record { idle = h.idle; unlowered = λ o e. subst (λ z. IsUnlowered x z) (same_some k.obj o (sym h.table ∙ e)) h.unlowered } }
 works_go_on sh x (Some (asked.Shrink name false)) (Lowering k) f h = record { more = refl; first = f; so_far = record { idle = h.idle; unlowered = λ o e. subst (λ z. IsUnlowered x z) (same_some k.obj o (sym h.table ∙ e)) h.unlowered } }
 works_go_on sh x st k f h = absurd h
+
+pub sessions_run : SessionsRun
+sessions_run sh scripts R0 R T moment legal time each known = record {
+  legal = legal;
+  in_time = time;
+  under = λ w task u. (each w (ways_are_known sh scripts (length R0) R T w task legal.told u).session).under task u;
+  whole = λ w u. quiet w u (own_of R w) refl;
+  known = known;
+}
+  where
+    quiet : (w : ℕ) → under_way T w ≡ None → (own : Option ℕ) → own_of R w ≡ own → own_backed R w ≡ false
+    quiet w u None e = ap (backed_of R) e
+    quiet w u (Some t) e = (each w (known w t e)).whole u
 
 pub runs_end : RunsEnd
 runs_end sh scripts R0 R T moment h over none = record { running = h; over = over; none_active = λ t. quiet t (is_active R t) refl }

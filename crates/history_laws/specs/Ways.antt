@@ -1,17 +1,17 @@
 -- A run between its events, and one event of it, as a world of sessions promises them. This engine's own.
-use Rattle.std.specs.Prelude.{◌≡◌, ℕ, ◌≤◌, List, [], ◌∷◌, MatchOption, Option, Some, None}
+use Rattle.std.specs.Prelude.{◌≡◌, ℕ, ◌≤◌, false, List, [], ◌∷◌, MatchOption, Option, Some, None}
 use Rattle.seg_words.specs.Types.{Shape}
 use Rattle.redo_model.specs.Records.{Record}
 use Rattle.redo_model.specs.Model.{IsLawful}
-use Rattle.session_laws.specs.Sessions.{own_of}
+use Rattle.session_laws.specs.Sessions.{own_of, own_backed}
 use Rattle.script_text.specs.declared.statement.Statement.{Statement}
 use Rattle.history_text.specs.declared.outcome.Outcome.{Outcome}
 use Rattle.history_model.specs.declared.history.Kept.{Kept}
 use Rattle.history_model.specs.declared.history.Kept.TheVariants as kept
 use Rattle.history_model.specs.declared.history.HistoryItem.{HistoryItem}
 use Rattle.history_model.specs.declared.history.HistoryItem.TheVariants as item
-use Rattle.history_model.specs.History.{Task, IsSession, AreInTime, IsOver}
-use Rattle.history_model.specs.Spans.{Span}
+use Rattle.history_model.specs.History.{Task, IsSession, statement_of, under_way, AreInTime, IsOver}
+use Rattle.history_model.specs.Spans.{Span, now_of}
 use Rattle.history_model.specs.Passing.{FirstPass}
 use Rattle.history_model.specs.Legal.{IsLegal}
 use Rattle.history_model.specs.Running.{IsOnItsWay, IsRunning, IsAtEnd}
@@ -24,6 +24,17 @@ use Rattle.history_laws.specs.Telling.{start_now, entry_now, MayStart, MayEnd}
 -- a statement that came past its first tests and is at some work is on its way
 abbrev pub WorksGoOn : Type 0
 WorksGoOn = (sh : Shape) (x : Span) (st : Option Statement) (k : Work) → MatchOption st (Unit {0}) (λ s. FirstPass sh x s) → WorkStands sh x st k → IsOnItsWay sh x st
+
+-- of one session: what it has under way is on its way; with nothing under way it has taken back nothing of its transaction
+pub record SessionRuns (sh : Shape) (scripts : List (List Statement)) (R : List Record) (T : List HistoryItem) (w : ℕ) : Type 0 where
+  pub under : (task : Task) → under_way T w ≡ Some task → IsOnItsWay sh (now_of scripts R w task) (statement_of scripts w task.place)
+  pub whole : under_way T w ≡ None → own_backed R w ≡ false
+
+-- so the run is, where each session of the scripts is so, and each active transaction is of one of them
+abbrev pub SessionsRun : Type 0
+SessionsRun =
+    (sh : Shape) (scripts : List (List Statement)) (R0 R : List Record) (T : List HistoryItem) (moment : ℕ) → IsLegal sh scripts R0 R T → AreInTime moment T → ((w : ℕ) → IsSession scripts w → SessionRuns sh scripts R T w)
+    → ((w t : ℕ) → own_of R w ≡ Some t → IsSession scripts w) → IsRunning sh scripts R0 R T moment
 
 -- a run is at its end where all is told, nothing is under way, and no session has a transaction
 abbrev pub RunsEnd : Type 0

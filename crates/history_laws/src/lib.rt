@@ -14,7 +14,7 @@ ghost use Rattle.history_laws.specs.ScanRefusals.{LostAreRefused, MarkedAreRefus
 ghost use Rattle.history_laws.specs.Shrinks.{CompactsMean, CursorsCome, CursorsPass, CursorsStop, LastExtentsStay, LowersMean, ShrinksAreSpent, ShrinksBegin, ShrinksMove, ShrinksSkip, ShrinksStop, StaysMean, StopsAreRight};
 ghost use Rattle.history_laws.specs.Starts.{StartsEnd, StartsGoOn};
 ghost use Rattle.history_laws.specs.Telling.{EntriesKeep, OthersAreTold, OwnIsTold, SpansBegin, StartsKeep};
-ghost use Rattle.history_laws.specs.Ways.{EventsKeep, RunsAreLegal, RunsEnd, WorksGoOn};
+ghost use Rattle.history_laws.specs.Ways.{EventsKeep, RunsAreLegal, RunsEnd, SessionsRun, WorksGoOn};
 ghost use Rattle.history_laws.specs.Scans.{EmptyScansMean, MarksMean, ScansMean, ScansOpen, ScansRead};
 
 /// What each start and each entry says of some records it says of every list that begins with them, whatever was added: so an
@@ -411,4 +411,9 @@ pub fn runs_are_legal()
 /// A Move of a table in the range of a shrink of it is the shrink's.
 pub fn moves_belong()
     ensures { MovesBelong }
+{}
+
+/// A run goes on where each of its sessions does.
+pub fn sessions_run()
+    ensures { SessionsRun }
 {}

@@ -1,13 +1,16 @@
 -- Some small histories are not legal.
-use Rattle.std.proofs.Common.{◌≡◌, ◌⊎◌, ℕ, ◌≤◌, true, List, [], ◌∷◌, length, map, Some, refl, sym, ◌∙◌, ap, subst, arith, inl, inr}
+use Rattle.std.proofs.Common.{◌≡◌, ◌⊎◌, ℕ, ◌≤◌, true, false, List, [], ◌∷◌, length, map, Some, refl, sym, ◌∙◌, ap, subst, arith, inl, inr, true≢false}
 use Rattle.redo_model.specs.Records.{Record}
 use Rattle.redo_model.specs.Model.{prefix, view_rows}
-use Rattle.redo_model.specs.Worked.{small, hello, movement_on, nine}
+use Rattle.redo_model.specs.Worked.{small, hello, table_t, movement_on, extend_by, nine}
+use Rattle.redo_laws.specs.Since.{any_since}
+use Rattle.shrink_laws.specs.Grown.{lowers}
 use Rattle.script_text.specs.declared.statement.Statement.{Statement}
 use Rattle.script_text.specs.declared.statement.Statement.TheVariants as asked
 use Rattle.history_text.specs.declared.entry.Entry.{Entry}
 use Rattle.history_text.specs.declared.outcome.Outcome.TheVariants as told
 use Rattle.history_text.specs.declared.outcome.RowOut.{RowOut}
+use Rattle.history_text.specs.declared.outcome.Stop.TheVariants.{Bottom}
 use Rattle.history_text.specs.declared.refusal.Refusal.TheVariants as why
 use Rattle.history_model.specs.declared.history.Kept.{Kept}
 use Rattle.history_model.specs.declared.history.Kept.TheVariants as kept
@@ -17,9 +20,10 @@ use Rattle.history_model.specs.Spans.{Span, span_of, now_of}
 use Rattle.history_model.specs.SoFar.{IsIdle}
 use Rattle.history_model.specs.RowMeans.{CommitMeans}
 use Rattle.history_model.specs.TableMeans.{row_out, ScanMeans}
+use Rattle.history_model.specs.ShrinkMeans.{CompactMeans}
 use Rattle.history_model.specs.Means.{RefusalMeans, Means}
 use Rattle.history_model.specs.Legal.{EntryStands, IsMade, AreMade, made_none, made_one}
-use Rattle.history_model.specs.Worked.{name_t, label_a, start_at, told_at, row_1, one_script, one_inserted, beside_scripts, moved_script, table_made, HistoriesAreRefused}
+use Rattle.history_model.specs.Worked.{name_t, label_a, start_at, told_at, row_1, one_script, one_inserted, beside_scripts, moved_script, table_made, compact_script, lowering, HistoriesAreRefused}
 use Rattle.history_model.proofs.Targets.{same_some}
 use Rattle.history_model.proofs.OneHistory.{some_none, none_some}
 
@@ -52,6 +56,10 @@ out_span = span_of one_script nine 1 (record { place = 3; begins = 9; past = tol
 
 left_out : ScanMeans small out_span name_t 1 [] → ⊥
 left_out m = some_row _ _ (sym (subst (λ o. [] ≡ map row_out (view_rows nine o 1 0)) (sym (same_some 1 m.obj m.table)) m.each))
+
+-- a Lower stands between its first event and its last
+lowered : CompactMeans small (span_of compact_script (lowering ∷ extend_by 0 ∷ table_t 10 ∷ []) 1 (record { place = 1; begins = 2; past = table_made }) 3) name_t 0 0 Bottom [] 2 → ⊥
+lowered m = true≢false (subst (λ o. any_since (lowers o) 2 (lowering ∷ extend_by 0 ∷ table_t 10 ∷ []) ≡ false) (sym (same_some 1 m.obj m.moves.table)) m.unlowered)
 
 -- the newest of the records that were made
 abbrev NewestMade : List (List Statement) → List HistoryItem → List Record → Type 0
@@ -103,4 +111,5 @@ histories_are_refused = record {
   statement_told_again = λ h. told_again h.0.task h.0.started h.0.ordinal;
   record_of_nobody = λ h. unmade h.made;
   row_made_and_not_told = λ moment h. not_idle (h.under 1 _ refl).so_far;
+  lowered_by_a_compaction = λ h. lowered (entry_means compact_script (lowering ∷ extend_by 0 ∷ table_t 10 ∷ []) _ _ _ _ refl h.0).1;
 }

@@ -1,7 +1,7 @@
 -- Two small histories that are legal, the second of two sessions whose events alternate, and some that are not.
 use Rattle.std.specs.Prelude.{ℕ, true, List, [], ◌∷◌, Some, None}
 use Rattle.seg_words.specs.Types.{By, At, Slot, Writer}
-use Rattle.redo_model.specs.Records.{Record, Begin, Update}
+use Rattle.redo_model.specs.Records.{Record, Lower, Begin, Update}
 use Rattle.redo_model.specs.Model.{prefix}
 use Rattle.redo_model.specs.Worked.{small, hello, row_by, part, change, insert, table_t, movement_on, extend_by, advance_4, format_block, begin, commit, reuse_37, clean, nine}
 use Rattle.script_text.specs.declared.statement.Statement.{Statement}
@@ -10,6 +10,7 @@ use Rattle.script_text.specs.declared.statement.Target.TheVariants.{Label}
 use Rattle.history_text.specs.declared.outcome.Outcome.{Outcome}
 use Rattle.history_text.specs.declared.outcome.Outcome.TheVariants as told
 use Rattle.history_text.specs.declared.outcome.RowOut.{RowOut}
+use Rattle.history_text.specs.declared.outcome.Stop.TheVariants.{Bottom}
 use Rattle.history_text.specs.declared.refusal.Refusal.TheVariants as why
 use Rattle.history_model.specs.declared.history.Kept.TheVariants as kept
 use Rattle.history_model.specs.declared.history.HistoryItem.{HistoryItem}
@@ -131,6 +132,16 @@ table_told = told_at 1 1 0 2 (told.Table name_t)
 abbrev pub table_made : List HistoryItem
 table_made = table_told ∷ start_at 1 0 ∷ []
 
+-- a script that only compacts, and a lowering
+abbrev pub compact_script : List (List Statement)
+compact_script = (asked.Table name_t 10 ∷ asked.Shrink name_t true ∷ []) ∷ []
+
+abbrev pub compacted : HistoryItem
+compacted = item.Told (record { session = 1; ordinal = Some 2; begins = 2; ends = 3; moment = 0; outcome = told.Compacted name_t 0 0 Bottom }) (kept.Stopped [] 2)
+
+abbrev pub lowering : Record
+lowering = Lower (record { obj = 1; header = 42; lowering = 1; kept = 1; low = 0; high = 0; l2 = Some 40 ∷ None ∷ None ∷ []; l3 = 41; bests = 0 ∷ 0 ∷ 0 ∷ []; released = 1 ∷ [] })
+
 pub record HistoriesAreRefused : Type 0 where
   pub commit_told_before_its_record : IsRefused one_script nine (told_at 1 3 7 7 (told.Committed 1) ∷ start_at 1 7 ∷ one_inserted)
   pub two_statements_under_way : IsRefused one_script nine (start_at 1 7 ∷ start_at 1 2 ∷ table_made)
@@ -143,3 +154,4 @@ pub record HistoriesAreRefused : Type 0 where
   pub statement_told_again : IsRefused one_script nine (told_at 1 1 2 2 (told.Table name_t) ∷ start_at 1 2 ∷ table_made)
   pub record_of_nobody : IsLegal small one_script [] (prefix nine 7) table_made → ⊥
   pub row_made_and_not_told : (moment : ℕ) → IsRunning small one_script [] (prefix nine 7) (start_at 1 2 ∷ table_made) moment → ⊥
+  pub lowered_by_a_compaction : IsRefused compact_script (lowering ∷ extend_by 0 ∷ table_t 10 ∷ []) (compacted ∷ start_at 1 2 ∷ table_made)

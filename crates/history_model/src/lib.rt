@@ -19,7 +19,8 @@ pub fn small_histories_are_legal()
 {}
 
 /// Told too early, two statements at once, an uncommitted row shown, a session that no script has, a wrong cause; refused with its
-/// work done, a row left out, told twice, a record that belongs to nobody, a row made by a statement still under way.
+/// work done, a row left out, told twice, a record that belongs to nobody, a row made by a statement still under way, a lowering
+/// by a compaction.
 pub fn wrong_histories_are_refused()
     ensures { HistoriesAreRefused }
 {}

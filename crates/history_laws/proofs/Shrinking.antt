@@ -6,12 +6,13 @@ use Rattle.redo_record.specs.declared.record.Record.TheVariants as made
 use Rattle.redo_model.specs.Records.{Record, MoveRecord, ReuseRecord}
 use Rattle.redo_model.specs.Model.{table_named, HasMovement}
 use Rattle.redo_laws.proofs.lists.Prefixes.{prefix_all}
-use Rattle.shrink_laws.specs.Stops.{row_image, is_skipped, IsAt}
+use Rattle.shrink_laws.specs.Stops.{row_image, is_skipped}
 use Rattle.shrink_laws.specs.Cursor.{CursorStands}
 use Rattle.shrink_laws.proofs.CursorLaw.{cursor_starts, cursor_goes_down, skipping_keeps, moving_keeps, skips_are_kept}
 use Rattle.script_text.specs.declared.statement.Statement.TheVariants as asked
 use Rattle.history_model.specs.Spans.{Span}
 use Rattle.history_model.specs.SoFar.{IsUnlowered}
+use Rattle.history_model.specs.Stopping.{HasCome}
 use Rattle.history_model.specs.Causes.{IsOnRow}
 use Rattle.history_model.specs.ShrinkMeans.{move_count}
 use Rattle.history_laws.specs.Working.{grown, later, MoveWork, ShrinkStands}
@@ -37,6 +38,11 @@ shrinks_begin sh x name o e t m = record {
     none_yet : (n : ℕ) → n ≡ n + 0
     none_yet n = omega arith
 
+pub cursors_come : CursorsCome
+cursors_come sh B R o skips cursor place d j f h =
+    let g = cursor_goes_down sh B R o skips cursor place f.down f.cleared h in
+    record { here = f.here; not_first = f.not_first; within = le_trans f.down h.within; full = f.full; fresh = f.fresh; greater = f.greater; higher = λ i b k l m a e. g.above i b k l m a e }
+
 pub shrinks_skip : ShrinksSkip
 shrinks_skip sh x name k place d j t s h =
     let c = skipping_keeps sh x.begun x.ended k.obj k.skips k.cursor place d j t s h.cursor in
@@ -48,12 +54,7 @@ shrinks_skip sh x name k place d j t s h =
       cursor = c.cursor;
       skipped = c.told h.skipped;
       skipped_at = (
-        record {
-          place = place;
-          here = subst (λ (R : List Record). IsAt sh R k.obj place d) (sym (prefix_all x.ended (length x.ended) (le_refl (length x.ended)))) s.finds.here;
-          not_first = s.finds.not_first;
-          within = le_trans s.finds.down h.cursor.within;
-        },
+        record { place = place; come = subst (λ (R : List Record). HasCome sh x.begun R k.obj k.skips place d j) (sym (prefix_all x.ended (length x.ended) (le_refl (length x.ended)))) (cursors_come sh x.begun x.ended k.obj k.skips k.cursor place d j s.finds h.cursor) },
         h.skipped_at,
       );
       unlowered = h.unlowered;
@@ -101,11 +102,6 @@ shrinks_move sh x R name k place d j s h =
     subst (λ (z : List Record). ShrinkStands sh (later x z) name (moved_work k place)) (sym all) (shrink_moved sh x name k place s.move s.reuse s.table (subst (λ (z : List Record). CursorStands sh x.begun z k.obj k.skips place) all c) h)
 
 -- the cursor
-
-pub cursors_come : CursorsCome
-cursors_come sh B R o skips cursor place d j f h =
-    let g = cursor_goes_down sh B R o skips cursor place f.down f.cleared h in
-    record { here = f.here; not_first = f.not_first; within = le_trans f.down h.within; full = f.full; fresh = f.fresh; greater = f.greater; higher = λ i b k l m a e. g.above i b k l m a e }
 
 pub cursors_stop : CursorsStop
 cursors_stop sh B R o skips cursor place at s h = record { place = place; come = cursors_come sh B R o skips cursor place at.dba at.slot s.finds h; over = s.over; not_down = s.not_down; none_takes = s.none_takes }

@@ -28,7 +28,7 @@ StopIs sh B S o skips (NoFit at) = NothingFits sh B S o skips at.dba at.slot
 StopIs sh B S o skips Bottom = FullPassed sh B S o skips 0
 
 -- A shrink: the number of Moves of the table since it began, none of them after it stopped; the number of slots that it skipped,
--- each of which stood in the table and held a row with that active writer; where it stopped.
+-- each of which held a row with that active writer as the shrink came to it; where it stopped.
 pub record MovesMean (sh : Shape) (x : Span) (name : List ℕ) (moved skipped : ℕ) (stop : Stop) (skips : List Skip) (stopped obj : ℕ) : Type 0 where
   pub table : table_named x.begun name ≡ Some obj
   pub from : length x.begun ≤ stopped

@@ -36,14 +36,12 @@ pub record NothingFits (sh : Shape) (B S : List Record) (o : ℕ) (skips : List 
   pub not_down : LeadsDown sh S o place d k → ⊥
   pub none_takes : first_taker sh S o place (length (row_image S d k).bytes) ≡ None
 
--- a slot that was skipped stood in the table then, above the first position and no higher than where the shrink began
-pub record SkippedAt (sh : Shape) (B S : List Record) (o : ℕ) (s : Skip) : Type 0 where
+-- a slot that was skipped, after these that were skipped before it: it had come to it then
+pub record SkippedAt (sh : Shape) (B S : List Record) (o : ℕ) (before : List Skip) (s : Skip) : Type 0 where
   pub place : ℕ
-  pub here : IsAt sh (prefix S s.records) o place s.block
-  pub not_first : 1 ≤ place
-  pub within : place ≤ last_formatted sh B o
+  pub come : HasCome sh B (prefix S s.records) o before place s.block s.slot
 
--- each did
+-- each
 abbrev pub AreSkippedAt : Shape → List Record → List Record → ℕ → List Skip → Type 0
 AreSkippedAt sh B S o [] = Unit {0}
-AreSkippedAt sh B S o (s ∷ ss) = SkippedAt sh B S o s × AreSkippedAt sh B S o ss
+AreSkippedAt sh B S o (s ∷ ss) = SkippedAt sh B S o ss s × AreSkippedAt sh B S o ss

@@ -9,12 +9,11 @@ use Rattle.txn_block.specs.declared.entry.TableEntry.TheVariants.{Used}
 use Rattle.txn_block.specs.declared.entry.Outcome.TheVariants.{Active}
 use Rattle.txn_block.specs.Entries as table
 use Rattle.txn_block.specs.Types.{TxnTable, TakesNext, entry_at, names, last_undo_in}
-use Rattle.version_laws.specs.Types.{HoldsTable, entry_used_by, outcome_when_over}
+use Rattle.version_laws.specs.Types.{HoldsTable, entry_used_by, outcome_when_over, begin_of}
 use Rattle.version_laws.proofs.TableLaw.{undo_is, entry_is}
 use Rattle.open_laws.proofs.BeginsLaw.{few_are_active}
 use Rattle.end_laws.specs.Types.{MayBegin}
 use Rattle.end_laws.proofs.Begins.{takes_next}
-use Rattle.change_laws.specs.Types.{begin_of}
 use Rattle.change_laws.proofs.ReadyLaw.{entered}
 use Rattle.row_change.specs.declared.actor.Actor.{Actor}
 use Rattle.row_change.specs.Acting.{MayAct, txn_of, old_actor, new_actor, ActsAnew, Acts, actor_at, open_actor, BeginsBy, IsFull}

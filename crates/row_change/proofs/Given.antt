@@ -12,9 +12,9 @@ use Rattle.redo_laws.proofs.room.RoomLaw.{blocks_have_room}
 use Rattle.txn_block.specs.Types.{TxnTable}
 use Rattle.undo_block.specs.Types.{used_by, holder_of}
 use Rattle.undo_block.specs.declared.part.Part.{Part}
-use Rattle.version_laws.specs.Types.{HoldsTable, IsInRing, ended_by}
+use Rattle.version_laws.specs.Types.{HoldsTable, IsInRing, ended_by, begin_of}
 use Rattle.version_laws.proofs.TableLaw.{tables_tell}
-use Rattle.change_laws.specs.Types.{entry_by, begin_of, fill}
+use Rattle.change_laws.specs.Types.{entry_by, fill}
 use Rattle.change_laws.proofs.BegunLaw.{begins_leave}
 use Rattle.change_laws.proofs.ShowLaw.{undo_pages_show}
 use Rattle.store_laws.specs.Kinds.{HasRowPage, HasUndo}

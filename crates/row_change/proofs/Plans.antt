@@ -3,7 +3,8 @@ use Rattle.std.proofs.Common.{◌≡◌, ℕ, suc, ◌+◌, List, [], ◌∷◌,
 use Rattle.seg_words.specs.Types.{Shape, Slot, UndoAddr, By}
 use Rattle.redo_model.specs.Records.{Record, Begin, Reuse, RowPart, RowBody, BeginRecord, ReuseRecord}
 use Rattle.redo_model.specs.Model.{Content, image_with, part_addr, IsLawful}
-use Rattle.change_laws.specs.Types.{begin_of, RowKind, as_record, Fill, Change, fills_size, change_size, part_of, parts_of, new_part, new_parts, new_body, body_at, record_of, Spot, Here, Next, Full, spot_for, undo_start, list_at, list_with, Makes, by_spot, MadeBy, MadeFor, MayInsert, insert_of, InsertMeans}
+use Rattle.version_laws.specs.Types.{begin_of}
+use Rattle.change_laws.specs.Types.{RowKind, as_record, Fill, Change, fills_size, change_size, part_of, parts_of, new_part, new_parts, new_body, body_at, record_of, Spot, Here, Next, Full, spot_for, undo_start, list_at, list_with, Makes, by_spot, MadeBy, MadeFor, MayInsert, insert_of, InsertMeans}
 use Rattle.change_laws.proofs.BegunLaw.{begins_leave, reuses_leave}
 use Rattle.change_laws.proofs.SpotLaw.{begins_are_lawful}
 use Rattle.change_laws.proofs.MadeLaw.{inserts_are_made}

@@ -4,7 +4,7 @@ use Rattle.redo_model.specs.Records.{Record, BeginRecord}
 use Rattle.redo_model.specs.Model.{txn_count, is_active, entry_of, last_undo, place_of_undo, number_or_zero, TakesEntry}
 use Rattle.txn_block.specs.Types.{TxnTable, TakesNext, names, last_undo_in}
 use Rattle.end_laws.specs.Types.{MayBegin}
-use Rattle.change_laws.specs.Types.{begin_of}
+use Rattle.version_laws.specs.Types.{begin_of}
 use Rattle.row_change.specs.declared.actor.Actor.{Actor}
 
 -- own is an active transaction, or the session may begin one

@@ -3,7 +3,8 @@ use Rattle.std.specs.Prelude.{◌≡◌, ◌∷◌, ℕ, List, Option, Some, Non
 use Rattle.seg_words.specs.Types.{Shape}
 use Rattle.redo_model.specs.Records.{Record, Begin}
 use Rattle.redo_model.specs.Model.{TakesEntry}
-use Rattle.change_laws.specs.Types.{Change, change_size, begin_of, Makes, by_spot, Full, spot_for, undo_start, list_with, MadeFor}
+use Rattle.version_laws.specs.Types.{begin_of}
+use Rattle.change_laws.specs.Types.{Change, change_size, Makes, by_spot, Full, spot_for, undo_start, list_with, MadeFor}
 use Rattle.row_change.specs.declared.actor.Actor.{Actor}
 use Rattle.row_change.specs.declared.draft.Change.{Change as ToldChange}
 use Rattle.row_change.specs.declared.draft.Additions.{Additions}

@@ -1,5 +1,5 @@
 -- Calls of an opening, one after the other.
-use Rattle.std.proofs.Common.{◌≡◌, ◌↔◌, ◌+◌, ◌<◌, ◌≤◌, List, ◌∷◌, None, refl, ◌∙◌, ap, subst, arith, le_trans}
+use Rattle.std.proofs.Common.{◌≡◌, List, ◌∷◌, None, refl, ◌∙◌, ap, subst, arith, le_trans}
 use Rattle.std.specs.Prelude.{Result, Ok, Err}
 use Rattle.disk_model.specs.Crash.{Meaning}
 use Rattle.disk_model.proofs.Going.{rose_later}

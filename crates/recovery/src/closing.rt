@@ -77,7 +77,7 @@ fn roll_back_all<D: Disk>(alloc: Global, store: &mut Store<D>) -> Result<(), Sto
 
 /// Takes back all active transactions and makes all records stable. After an `Err` some of them may be taken back, and what is
 /// left is taken back by the next opening.
-pub fn settle_active<D: Disk>(alloc: Global, store: &mut Store<D>) -> Result<(), StoreFault>
+pub fn take_back_active<D: Disk>(alloc: Global, store: &mut Store<D>) -> Result<(), StoreFault>
     requires unspent { store.old.fault ≡ None }
     ensures comes { (R : List Record) → IsTrue D.meaning R store.old → Comes D.meaning R (closed R) store.old store.new result }
     ensures all_stable { (R : List Record) → IsTrue D.meaning R store.old → OnOk result (store.new.log.stable ≡ length (closed R)) }

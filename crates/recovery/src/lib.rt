@@ -1,7 +1,13 @@
 //! Opening a store: the records of its log make its pages, and transactions that were active when it was left are taken back.
+//!
+//! `recover` and `Store::over`, or `open`, which is both, open the store of a disk.
 #![tactic(auto)]
 
 mod closing;
 mod next;
+mod opening;
+mod refusing;
 
-pub use closing::settle_active;
+pub use closing::take_back_active;
+pub use opening::{open, recover};
+pub use store_files::{OpenFault, format};

@@ -1,4 +1,4 @@
-use Rattle.std.proofs.Common.{Bool, false, subst}
+use Rattle.std.proofs.Common.{Bool, subst}
 use Rattle.recovery.specs.Coming.{ComesNext}
 use Rattle.recovery.proofs.Loops.{close_first, close_next, close_done, close_refused, close_all}
 use Rattle.recovery.proofs.closing.roll_back_all.Goals as goal

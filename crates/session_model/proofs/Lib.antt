@@ -1,0 +1,6 @@
+pub mod Keeping
+pub mod Alone
+pub mod Going
+pub mod Events
+pub mod Settling
+pub mod Running

@@ -1,0 +1,5 @@
+use Rattle.session_model.proofs.Events as laws
+use Rattle.session_model.proofs.events_fail.Goals as goal
+
+pub returns : goal.returns
+returns c = laws.events_fail

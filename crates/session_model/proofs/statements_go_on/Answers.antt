@@ -1,0 +1,5 @@
+use Rattle.session_model.proofs.Events as laws
+use Rattle.session_model.proofs.statements_go_on.Goals as goal
+
+pub returns : goal.returns
+returns c = laws.statements_go_on

@@ -4,6 +4,7 @@ pub mod Counting
 pub mod Looking
 pub mod Lookups
 pub mod LogRead
+pub mod Numbers
 pub mod Prepared
 pub mod Surviving
 pub mod Taking

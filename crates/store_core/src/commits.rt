@@ -32,12 +32,12 @@ impl<'a, D: Disk> Store<'a, D> {
     /// answers the commit's number. It takes no memory. After a fault of the disk the list has the Commit, and a crash may leave
     /// it or not.
     pub fn record_commit(&mut self, txn: TxnId) -> Result<Scn, StoreFault>
-        ensures added { (R : List Record) (c : CommitRecord) → IsTrue D.meaning R self.old → self.old.fault ≡ None → c.txn ≡ txn → IsLawful self.old.shape (Commit c ∷ R) → suc (length R) < 2 ^ 64
+        ensures added { (R : List Record) (c : CommitRecord) → IsTrue D.meaning R self.old → self.old.fault ≡ None → c.txn ≡ txn → IsLawful self.old.shape (Commit c ∷ R)
             → IsTrue D.meaning (Commit c ∷ R) self.new }
-        ensures number { (R : List Record) (c : CommitRecord) → IsTrue D.meaning R self.old → c.txn ≡ txn → IsLawful self.old.shape (Commit c ∷ R) → suc (length R) < 2 ^ 64 → IfOk result (λ number. number ≡ c.number) }
-        ensures all_stable { (R : List Record) → IsTrue D.meaning R self.old → suc (length R) < 2 ^ 64 → OnOk result (self.new.log.stable ≡ suc (length R)) }
-        ensures sound { (R : List Record) (c : CommitRecord) → IsTrue D.meaning R self.old → self.old.fault ≡ None → c.txn ≡ txn → IsLawful self.old.shape (Commit c ∷ R) → suc (length R) < 2 ^ 64 → IfErr result (λ e. e ≡ faults.DeviceFault) }
-        ensures survives { (since : ℕ) (needed : ℕ → ℕ) (R : List Record) (c : CommitRecord) → IsTrue D.meaning R self.old → self.old.fault ≡ None → c.txn ≡ txn → IsLawful self.old.shape (Commit c ∷ R) → suc (length R) < 2 ^ 64
+        ensures number { (R : List Record) (c : CommitRecord) → IsTrue D.meaning R self.old → c.txn ≡ txn → IsLawful self.old.shape (Commit c ∷ R) → IfOk result (λ number. number ≡ c.number) }
+        ensures all_stable { (R : List Record) → IsTrue D.meaning R self.old → OnOk result (self.new.log.stable ≡ suc (length R)) }
+        ensures sound { (R : List Record) (c : CommitRecord) → IsTrue D.meaning R self.old → self.old.fault ≡ None → c.txn ≡ txn → IsLawful self.old.shape (Commit c ∷ R) → IfErr result (λ e. e ≡ faults.DeviceFault) }
+        ensures survives { (since : ℕ) (needed : ℕ → ℕ) (R : List Record) (c : CommitRecord) → IsTrue D.meaning R self.old → self.old.fault ≡ None → c.txn ≡ txn → IsLawful self.old.shape (Commit c ∷ R)
             → Survives D.meaning since needed R self.old → Survives D.meaning since needed (Commit c ∷ R) self.new }
         ensures written { OnOk result (waits self.new ≡ 0) }
         ensures memory { self.old.fault ≡ None → IsErrOf result faults.NoMemory → ⊥ }
@@ -48,7 +48,16 @@ impl<'a, D: Disk> Store<'a, D> {
         if let Some(fault) = self.fault {
             return Err(fault);
         }
+        self.have_number();
         self.add_commit(txn)
+    }
+
+    // One more record has a number: a record takes at least two bytes of the log, and the lengths of what is written and of what
+    // waits are u64.
+    fn have_number(&self)
+        ensures { (R : List Record) → HasList D.meaning R self.now → self.now.fault ≡ None → suc (length R) < 2 ^ 64 }
+    {
+        let _ = (self.log.end(), self.log.unwritten());
     }
 
     // Adds the Commit of a transaction, whose entry its page tells.

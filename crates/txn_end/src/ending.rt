@@ -1,5 +1,5 @@
 // A commit, and the end of a rollback.
-ghost use Rattle.std.specs.Prelude.{◌≡◌, ◌∷◌, ◌<◌, ◌≤◌, ◌^◌, suc, ℕ, List, None, length, OnOk, IfOk, IfErr, IsErrOf};
+ghost use Rattle.std.specs.Prelude.{◌≡◌, ◌∷◌, ◌≤◌, suc, ℕ, List, None, length, OnOk, IfOk, IfErr, IsErrOf};
 ghost use Rattle.redo_model.specs.Records.{Record, Commit, Ended};
 ghost use Rattle.redo_model.specs.Model.{commit_count, IsLawful};
 ghost use Rattle.end_laws.specs.Types.{MayCommit, MayEnd, commit_of, ended_of};
@@ -53,11 +53,11 @@ pub fn end_back<D: Disk>(alloc: Global, store: &mut Store<D>, txn: TxnId) -> Res
 /// Commits an active transaction of which nothing is taken back, and makes its records stable. It takes no memory. After a fault
 /// of the disk the list has the Commit, and a crash may leave it or not.
 pub fn commit<D: Disk>(store: &mut Store<D>, txn: TxnId) -> Result<Scn, StoreFault>
-    ensures added { (R : List Record) → IsTrue D.meaning R store.old → store.old.fault ≡ None → MayCommit R txn → suc (length R) < 2 ^ 64 → IsTrue D.meaning (Commit (commit_of R txn) ∷ R) store.new }
-    ensures number { (R : List Record) → IsTrue D.meaning R store.old → MayCommit R txn → suc (length R) < 2 ^ 64 → IfOk result (λ number. number ≡ suc (commit_count R)) }
-    ensures all_stable { (R : List Record) → IsTrue D.meaning R store.old → suc (length R) < 2 ^ 64 → OnOk result (store.new.log.stable ≡ suc (length R)) }
-    ensures sound { (R : List Record) → IsTrue D.meaning R store.old → store.old.fault ≡ None → MayCommit R txn → suc (length R) < 2 ^ 64 → IfErr result (λ e. e ≡ faults.DeviceFault) }
-    ensures survives { (since : ℕ) (needed : ℕ → ℕ) (R : List Record) → IsTrue D.meaning R store.old → store.old.fault ≡ None → MayCommit R txn → suc (length R) < 2 ^ 64 → Survives D.meaning since needed R store.old → Survives D.meaning since needed (Commit (commit_of R txn) ∷ R) store.new }
+    ensures added { (R : List Record) → IsTrue D.meaning R store.old → store.old.fault ≡ None → MayCommit R txn → IsTrue D.meaning (Commit (commit_of R txn) ∷ R) store.new }
+    ensures number { (R : List Record) → IsTrue D.meaning R store.old → MayCommit R txn → IfOk result (λ number. number ≡ suc (commit_count R)) }
+    ensures all_stable { (R : List Record) → IsTrue D.meaning R store.old → OnOk result (store.new.log.stable ≡ suc (length R)) }
+    ensures sound { (R : List Record) → IsTrue D.meaning R store.old → store.old.fault ≡ None → MayCommit R txn → IfErr result (λ e. e ≡ faults.DeviceFault) }
+    ensures survives { (since : ℕ) (needed : ℕ → ℕ) (R : List Record) → IsTrue D.meaning R store.old → store.old.fault ≡ None → MayCommit R txn → Survives D.meaning since needed R store.old → Survives D.meaning since needed (Commit (commit_of R txn) ∷ R) store.new }
     ensures memory { store.old.fault ≡ None → IsErrOf result faults.NoMemory → ⊥ }
     ensures stable { (R : List Record) → HasList D.meaning R store.old → store.old.log.stable ≤ store.new.log.stable }
     ensures loan { SameLoan D.meaning store.old store.new }

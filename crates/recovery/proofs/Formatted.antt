@@ -1,4 +1,4 @@
--- A store that was just made is opened.
+-- What follows of the clauses of an opening: a store that was just made is opened, and an image that a crash left gives the same list.
 use Rattle.std.proofs.Common.{◌≡◌, ℕ, List, [], length, refl, ◌∙◌, ap, subst, arith, length-take}
 use Rattle.std.specs.Prelude.{Result, Ok, Err, IfOk, IfErr}
 use Rattle.seg_words.specs.Types.{Shape}
@@ -16,7 +16,7 @@ use Rattle.store_core.specs.Store.{Held, IsTrue}
 use Rattle.store_core.specs.Survives.{IsSound}
 use Rattle.store_core.proofs.Prepared.{durable_settled}
 use Rattle.recovery.specs.Refused.{IsSoundRefusal}
-use Rattle.recovery.specs.Opened.{IsOpened}
+use Rattle.recovery.specs.Opened.{IsOpened, Reopens}
 
 -- a new store is a sound one without a record
 pub new_is_sound : (sh : Shape) (files : Files) → IsEmptyStore sh files → IsSound sh [] files
@@ -40,3 +40,7 @@ formatted_opens meaning sh made (Ok s) new opens sound =
     let is = opens sh [] (durable_settled meaning made new.0) (new_is_sound sh (meaning.files made) new.1) in
     (subst (λ (R : List Record). IsTrue meaning R s) nothing_to_close is.list, tt)
 formatted_opens meaning sh made (Err e) new opens sound = (tt, sound sh [] (durable_settled meaning made new.0) (new_is_sound sh (meaning.files made) new.1))
+
+-- the store that an opening makes of an image that a crash left within an opening of R
+pub reopened : {D : Type 0} (meaning : Meaning D) (sh : Shape) (R : List Record) (bytes : List ℕ) (image : Files) (s : Held D) → (h : Reopens sh R bytes image) → IsOpened meaning sh h.list s → IsTrue meaning (closed R) s
+reopened meaning sh R bytes image s h is = subst (λ (Q : List Record). IsTrue meaning Q s) h.closes is.list

@@ -22,7 +22,7 @@ module _ {D : Type 0} (meaning : Meaning D) where
   -- ---- the list
 
   pub come_here : (R : List Record) (a : Held D) → IsTrue meaning R a → HasCome meaning R R a a
-  come_here R a t = record { from = same; closes = refl; is_true = t; stable = omega arith; survives = λ since needed h. h }
+  come_here R a t = record { from = same; closes = refl; is_true = t; stable = omega arith; later = omega arith; survives = λ since needed h. h }
 
   pub come_on : (R Q S : List Record) (a b c : Held D) → HasCome meaning R Q a b → HasCome meaning Q S b c → HasCome meaning R S a c
   come_on R Q S a b c p q = record {
@@ -30,6 +30,7 @@ module _ {D : Type 0} (meaning : Meaning D) where
     closes = q.closes ∙ p.closes;
     is_true = q.is_true;
     stable = le_trans p.stable q.stable;
+    later = le_trans p.later q.later;
     survives = λ since needed h. q.survives since needed (p.survives since needed h);
   }
 
@@ -40,15 +41,16 @@ module _ {D : Type 0} (meaning : Meaning D) where
     closes = refl;
     is_true = look.stays_true R t;
     stable = look.stable R t.list;
+    later = look.loan.time R t.list;
     survives = λ since needed h. look.survives since needed R t h;
   }
 
   -- and one that added records, or was refused
-  pub come_made : {T : Type 0} (R next : List Record) (a b : Held D) (x : T) → Extends R next → closed next ≡ closed R → Adds meaning R next a b (Ok x) → HasCome meaning R next a b
-  come_made R next a b x from closes m = record { from = from; closes = closes; is_true = m.added; stable = m.stable; survives = m.survives }
+  pub come_made : {T : Type 0} (R next : List Record) (a b : Held D) (x : T) → IsTrue meaning R a → SameLoan meaning a b → Extends R next → closed next ≡ closed R → Adds meaning R next a b (Ok x) → HasCome meaning R next a b
+  come_made R next a b x t loan from closes m = record { from = from; closes = closes; is_true = m.added; stable = m.stable; later = loan.time R t.list; survives = m.survives }
 
-  pub come_refused : {T : Type 0} (R next : List Record) (a b : Held D) (f : StoreFault) → Adds {T = T} meaning R next a b (Err f) → HasCome meaning R R a b
-  come_refused R next a b f m = record { from = same; closes = refl; is_true = m.refused; stable = m.stable; survives = m.survives_refused }
+  pub come_refused : {T : Type 0} (R next : List Record) (a b : Held D) (f : StoreFault) → IsTrue meaning R a → SameLoan meaning a b → Adds {T = T} meaning R next a b (Err f) → HasCome meaning R R a b
+  come_refused R next a b f t loan m = record { from = same; closes = refl; is_true = m.refused; stable = m.stable; later = loan.time R t.list; survives = m.survives_refused }
 
   pub come_as : (R Q S : List Record) (a b : Held D) → Q ≡ S → HasCome meaning R Q a b → HasCome meaning R S a b
   come_as R Q S a b e h = subst (λ (X : List Record). HasCome meaning R X a b) e h

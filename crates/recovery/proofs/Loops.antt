@@ -53,10 +53,10 @@ module _ {D : Type 0} (meaning : Meaning D) where
   }
 
   -- one more step
-  back_more : (t i : ℕ) (R : List Record) (a b c : Held D) (blocks : List ℕ) → Backing t i R a b
+  back_more : (t i : ℕ) (R : List Record) (a b c : Held D) (blocks : List ℕ) → Backing t i R a b → SameLoan meaning b c
       → ((Q : List Record) → IsTrue meaning Q b → is_active Q t ≡ true → Adds {T = Option (List ℕ)} meaning Q (backed Q t) b c (Ok (Some blocks)))
       → ((Q : List Record) → IsTrue meaning Q b → is_active Q t ≡ true → Some blocks ≡ blocks_of_step (newest_of (standing Q) t)) → Backing t (i + 1) R a c
-  back_more t i R a b c blocks s makes says =
+  back_more t i R a b c blocks s loan makes says =
       let Q = s.list in
       let h = s.come.is_true in
       let step = steps_close b.shape Q t h.lawful s.first in
@@ -65,7 +65,7 @@ module _ {D : Type 0} (meaning : Meaning D) where
       let before = s.left in
       record {
         list = backed Q t;
-        come = come_on meaning R Q (backed Q t) a b c s.come (come_made meaning Q (backed Q t) b c (Some blocks) step.extends step.back (makes Q h s.first.active));
+        come = come_on meaning R Q (backed Q t) a b c s.come (come_made meaning Q (backed Q t) b c (Some blocks) h loan step.extends step.back (makes Q h s.first.active));
         first = step.still_first;
         rest = step.rest ∙ s.rest;
         left = omega (arith, fewer, before);
@@ -75,7 +75,7 @@ module _ {D : Type 0} (meaning : Meaning D) where
       → ((Q : List Record) → IsTrue meaning Q b → is_active Q t ≡ true → Adds {T = Option (List ℕ)} meaning Q (backed Q t) b c (Ok (Some blocks)))
       → ((Q : List Record) → IsTrue meaning Q b → is_active Q t ≡ true → Some blocks ≡ blocks_of_step (newest_of (standing Q) t)) → BackLoop t (i + 1) a c
   back_next t i a b c blocks l loan cause makes says = record {
-    each = λ R h f. back_more t i R a b c blocks (l.each R h f) makes says;
+    each = λ R h f. back_more t i R a b c blocks (l.each R h f) loan makes says;
     keeps = keeps_on meaning a b c tt (Ok tt) l.keeps (keeps_ok meaning b c (Some blocks) tt (keeps_of meaning b c (Ok (Some blocks)) l.keeps.kept loan cause));
   }
 
@@ -95,19 +95,19 @@ module _ {D : Type 0} (meaning : Meaning D) where
       let q = s.come.is_true in
       let step = steps_close b.shape Q t q.lawful s.first in
       let e = none_left (newest_of (standing Q) t) (says Q q s.first.active) in
-      let come = come_on meaning R Q (backed Q t) a b c s.come (come_made meaning Q (backed Q t) b c None step.extends step.back (makes Q q s.first.active)) in
+      let come = come_on meaning R Q (backed Q t) a b c s.come (come_made meaning Q (backed Q t) b c None q loan step.extends step.back (makes Q q s.first.active)) in
       comes_ok meaning R (all_backed R t) a c tt (come_as meaning R (backed Q t) (all_backed R t) a c (same_backed Q e ∙ sym (step.whole e) ∙ s.rest) come)
     where
       same_backed : (Q : List Record) → newest_of (standing Q) t ≡ None → backed Q t ≡ Q
       same_backed Q e = ap (backed_with Q t) e
 
-  pub back_refused : (t i : ℕ) (a b c : Held D) (fault : StoreFault) → BackLoop t i a b
+  pub back_refused : (t i : ℕ) (a b c : Held D) (fault : StoreFault) → BackLoop t i a b → SameLoan meaning b c
       → ((Q : List Record) → IsTrue meaning Q b → is_active Q t ≡ true → Adds {T = Option (List ℕ)} meaning Q (backed Q t) b c (Err fault))
       → (R : List Record) → IsTrue meaning R a → IsFirst R t → Comes {T = Unit {0}} meaning R (all_backed R t) a c (Err fault)
-  back_refused t i a b c fault l makes R h f =
+  back_refused t i a b c fault l loan makes R h f =
       let s = l.each R h f in
       let m = makes s.list s.come.is_true s.first.active in
-      comes_err meaning R (all_backed R t) a c fault (record { list = s.list; come = come_on meaning R s.list s.list a b c s.come (come_refused meaning s.list (backed s.list t) b c fault m) }) (m.sound l.keeps.kept)
+      comes_err meaning R (all_backed R t) a c fault (record { list = s.list; come = come_on meaning R s.list s.list a b c s.come (come_refused meaning s.list (backed s.list t) b c fault s.come.is_true loan m) }) (m.sound l.keeps.kept)
 
   pub back_keeps : {T : Type 0} (t i : ℕ) (a b c : Held D) (r : Result T StoreFault) → BackLoop t i a b → SameLoan meaning b c → HasCause meaning b c r → Keeps meaning a c r
   back_keeps t i a b c r l loan cause = keeps_on meaning a b c tt r l.keeps (keeps_of meaning b c r l.keeps.kept loan cause)
@@ -126,25 +126,25 @@ module _ {D : Type 0} (meaning : Meaning D) where
 
   -- ---- and its end
 
-  rolled : {T : Type 0} (t : ℕ) (R : List Record) (a b c : Held D) (u : Unit {0}) (x : T) → IsTrue meaning R a → IsFirst R t → Comes {T = Unit {0}} meaning R (all_backed R t) a b (Ok u)
+  rolled : {T : Type 0} (t : ℕ) (R : List Record) (a b c : Held D) (u : Unit {0}) (x : T) → IsTrue meaning R a → IsFirst R t → SameLoan meaning b c → Comes {T = Unit {0}} meaning R (all_backed R t) a b (Ok u)
       → ((Q : List Record) → IsTrue meaning Q b → MayEnd Q t → Adds {T = T} meaning Q (Ended (ended_of Q t) ∷ Q) b c (Ok x)) → Comes {T = T} meaning R (rolled_back R t) a c (Ok x)
-  rolled t R a b c u x h f p makes =
+  rolled t R a b c u x h f loan p makes =
       let whole = rollbacks_close a.shape R t h.lawful f in
       let Q = all_backed R t in
-      comes_ok meaning R (rolled_back R t) a c x (come_on meaning R Q (rolled_back R t) a b c p.done (come_made meaning Q (rolled_back R t) b c x (more (Ended (ended_of Q t)) same) (whole.closes ∙ sym p.done.closes) (makes Q p.done.is_true whole.may_end)))
+      comes_ok meaning R (rolled_back R t) a c x (come_on meaning R Q (rolled_back R t) a b c p.done (come_made meaning Q (rolled_back R t) b c x p.done.is_true loan (more (Ended (ended_of Q t)) same) (whole.closes ∙ sym p.done.closes) (makes Q p.done.is_true whole.may_end)))
 
-  rolled_refused : {T : Type 0} (t : ℕ) (R : List Record) (a b c : Held D) (u : Unit {0}) (fault : StoreFault) → IsTrue meaning R a → IsFirst R t → Comes {T = Unit {0}} meaning R (all_backed R t) a b (Ok u) → b.fault ≡ None
+  rolled_refused : {T : Type 0} (t : ℕ) (R : List Record) (a b c : Held D) (u : Unit {0}) (fault : StoreFault) → IsTrue meaning R a → IsFirst R t → SameLoan meaning b c → Comes {T = Unit {0}} meaning R (all_backed R t) a b (Ok u) → b.fault ≡ None
       → ((Q : List Record) → IsTrue meaning Q b → MayEnd Q t → Adds {T = T} meaning Q (Ended (ended_of Q t) ∷ Q) b c (Err fault)) → Comes {T = T} meaning R (rolled_back R t) a c (Err fault)
-  rolled_refused t R a b c u fault h f p n makes =
+  rolled_refused t R a b c u fault h f loan p n makes =
       let whole = rollbacks_close a.shape R t h.lawful f in
       let Q = all_backed R t in
       let m = makes Q p.done.is_true whole.may_end in
-      comes_err meaning R (rolled_back R t) a c fault (record { list = Q; come = come_on meaning R Q Q a b c p.done (come_refused meaning Q (rolled_back R t) b c fault m) }) (m.sound n)
+      comes_err meaning R (rolled_back R t) a c fault (record { list = Q; come = come_on meaning R Q Q a b c p.done (come_refused meaning Q (rolled_back R t) b c fault p.done.is_true loan m) }) (m.sound n)
 
-  pub rolled_any : {T : Type 0} (t : ℕ) (R : List Record) (a b c : Held D) (u : Unit {0}) (r : Result T StoreFault) → IsTrue meaning R a → IsFirst R t → Comes {T = Unit {0}} meaning R (all_backed R t) a b (Ok u) → b.fault ≡ None
+  pub rolled_any : {T : Type 0} (t : ℕ) (R : List Record) (a b c : Held D) (u : Unit {0}) (r : Result T StoreFault) → IsTrue meaning R a → IsFirst R t → SameLoan meaning b c → Comes {T = Unit {0}} meaning R (all_backed R t) a b (Ok u) → b.fault ≡ None
       → ((Q : List Record) → IsTrue meaning Q b → MayEnd Q t → Adds {T = T} meaning Q (Ended (ended_of Q t) ∷ Q) b c r) → Comes {T = T} meaning R (rolled_back R t) a c r
-  rolled_any t R a b c u (Ok x) h f p n makes = rolled t R a b c u x h f p makes
-  rolled_any t R a b c u (Err e) h f p n makes = rolled_refused t R a b c u e h f p n makes
+  rolled_any t R a b c u (Ok x) h f loan p n makes = rolled t R a b c u x h f loan p makes
+  rolled_any t R a b c u (Err e) h f loan p n makes = rolled_refused t R a b c u e h f loan p n makes
 
   -- ---- the next transaction
 

@@ -12,12 +12,13 @@ use Rattle.store_core.specs.declared.fault.StoreFault.{StoreFault}
 use Rattle.store_core.specs.declared.fault.StoreFault.TheVariants.{DeviceFault}
 
 -- The store had the records R and has Q, on the way to the list that an opening makes of R; what survives a crash goes on surviving
--- it.
+-- it. The clock doesn't fall.
 pub record HasCome {D : Type 0} (meaning : Meaning D) (R Q : List Record) (old new : Held D) : Type 0 where
   pub from : Extends R Q
   pub closes : closed Q ≡ closed R
   pub is_true : IsTrue meaning Q new
   pub stable : old.log.stable ≤ new.log.stable
+  pub later : meaning.clock old.disk ≤ meaning.clock new.disk
   pub survives : (since : ℕ) (needed : ℕ → ℕ) → Survives meaning since needed R old → Survives meaning since needed Q new
 
 -- it has come to some list on the way
@@ -49,7 +50,9 @@ ComesNext meaning R old new true = TookBack meaning R old new
 ComesNext meaning R old new false = WasClosed meaning R old new
 
 -- The disk's loan, the disk as it was when it was lent, and the shape are as before; no call read the log; the store keeps the fault
--- that it answers; and it answers that of the disk only where the count of faults rose, which doesn't fall.
+-- that it answers; and it answers that of the disk only where the count of faults rose, which doesn't fall. Of a store whose records
+-- aren't lawful no more is known after a step of a rollback, not that it has a list: what the clock does is said of true stores,
+-- by HasCome.
 pub record Keeps {D T : Type 0} (meaning : Meaning D) (old new : Held D) (result : Result T StoreFault) : Type 0 where
   pub loan : new.loan ≡ old.loan
   pub first : new.first ≡ old.first

@@ -7,6 +7,8 @@ mod closing;
 mod next;
 mod opening;
 mod refusing;
+#[cfg(test)]
+mod tests;
 
 pub use closing::take_back_active;
 pub use opening::{open, recover};

@@ -15,7 +15,7 @@ returns-in-Ok-None-clause-comes g c = λ R h f. back_none g.D.Disk.meaning c.arg
     (λ Q q on. sym c.in-Ok-None.field-0-is ∙ c.in-Ok-None.ensures.answer Q q on) R h f
 
 pub returns-in-Err-clause-comes : goal.returns-in-Err-clause-comes
-returns-in-Err-clause-comes g c = λ R h f. back_refused g.D.Disk.meaning c.args.txn c.loop.counter c.args.store.now c.loop.store c.back_step.new.store c.in-Err.fault c.loop.invariant (λ Q q on. c.in-Err.ensures.makes Q q on) R h f
+returns-in-Err-clause-comes g c = λ R h f. back_refused g.D.Disk.meaning c.args.txn c.loop.counter c.args.store.now c.loop.store c.back_step.new.store c.in-Err.fault c.loop.invariant c.in-Err.ensures.loan (λ Q q on. c.in-Err.ensures.makes Q q on) R h f
 
 pub loop-preserved : goal.loop-preserved
 loop-preserved g c = back_next g.D.Disk.meaning c.args.txn c.loop.counter c.args.store.now c.loop.store c.back_step.new.store c.in-Ok-Some.field-0-0 c.loop.invariant c.back_step.ensures.loan

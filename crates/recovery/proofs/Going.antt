@@ -1,5 +1,5 @@
 -- Calls of an opening, one after the other.
-use Rattle.std.proofs.Common.{◌≡◌, List, ◌∷◌, None, refl, ◌∙◌, ap, subst, arith, le_trans}
+use Rattle.std.proofs.Common.{◌≡◌, List, ◌∷◌, None, refl, ◌∙◌, subst, arith, le_trans}
 use Rattle.std.specs.Prelude.{Result, Ok, Err}
 use Rattle.disk_model.specs.Crash.{Meaning}
 use Rattle.disk_model.proofs.Going.{rose_later}
@@ -10,8 +10,8 @@ use Rattle.rollback_laws.specs.Closing.{closed}
 use Rattle.store_core.specs.Store.{Held, IsTrue, SameLoan}
 use Rattle.store_core.specs.Causes.{HasCause, HasLooked, IsSoundFault}
 use Rattle.store_core.specs.declared.fault.StoreFault.{StoreFault}
-use Rattle.store_core.specs.declared.fault.StoreFault.TheVariants.{DeviceFault}
 use Rattle.store_core.specs.Adding.{Adds}
+use Rattle.store_core.proofs.Lookups.{on_ok, none_some}
 use Rattle.recovery.specs.Coming.{HasCome, HasStopped, Comes, Keeps}
 
 pub extends_on : (P Q R : List Record) → Extends P Q → Extends Q R → Extends P R
@@ -66,65 +66,42 @@ module _ {D : Type 0} (meaning : Meaning D) where
 
   -- ---- what stays
 
-  pub keeps_here : (a : Held D) → a.fault ≡ None → Keeps {T = Unit {0}} meaning a a (Ok tt)
-  keeps_here a n = record {
-    loan = refl;
-    first = refl;
-    shape = refl;
-    told = (λ h. h, λ h. h);
-    reads = refl;
-    faults = omega arith;
-    kept = n;
-    device = λ e. absurd (cc e);
-  }
+  pub keeps_here : (a : Held D) → Keeps meaning a a
+  keeps_here a = record { loan = refl; first = refl; shape = refl; told = (λ h. h, λ h. h); reads = refl; faults = omega arith }
 
-  pub keeps_of : {T : Type 0} (a b : Held D) (r : Result T StoreFault) → a.fault ≡ None → SameLoan meaning a b → HasCause meaning a b r → Keeps meaning a b r
-  keeps_of a b r n loan cause = record {
-    loan = loan.loan;
-    first = loan.first;
-    shape = loan.shape;
-    told = loan.told;
-    reads = loan.reads;
-    faults = loan.faults;
-    kept = cause.kept n;
-    device = cause.device n;
-  }
+  pub keeps_of : (a b : Held D) → SameLoan meaning a b → Keeps meaning a b
+  keeps_of a b loan = record { loan = loan.loan; first = loan.first; shape = loan.shape; told = loan.told; reads = loan.reads; faults = loan.faults }
 
-  pub keeps_on : {A T : Type 0} (a b c : Held D) (x : A) (r : Result T StoreFault) → Keeps {T = A} meaning a b (Ok x) → Keeps meaning b c r → Keeps meaning a c r
-  keeps_on a b c x r p q = record {
+  pub keeps_on : (a b c : Held D) → Keeps meaning a b → Keeps meaning b c → Keeps meaning a c
+  keeps_on a b c p q = record {
     loan = q.loan ∙ p.loan;
     first = q.first ∙ p.first;
     shape = q.shape ∙ p.shape;
     told = (λ h. p.told.0 (q.told.0 h), λ h. q.told.1 (p.told.1 h));
     reads = q.reads ∙ p.reads;
     faults = le_trans p.faults q.faults;
-    kept = q.kept;
-    device = λ e. rose_later (meaning.fault_count a.disk) (meaning.fault_count b.disk) (meaning.fault_count c.disk) p.faults (q.device e);
   }
 
-  pub keeps_ok : {A T : Type 0} (a b : Held D) (x : A) (y : T) → Keeps {T = A} meaning a b (Ok x) → Keeps {T = T} meaning a b (Ok y)
-  keeps_ok a b x y p = record {
-    loan = p.loan;
-    first = p.first;
-    shape = p.shape;
-    told = p.told;
-    reads = p.reads;
-    faults = p.faults;
-    kept = p.kept;
-    device = λ e. absurd (cc e);
+  -- ---- causes
+
+  pub cause_here : (a : Held D) → a.fault ≡ None → HasCause {T = Unit {0}} meaning a a (Ok tt)
+  cause_here a n = record {
+    device = λ m e. absurd (cc e);
+    kept = λ m. n;
+    goes_on = n;
+    answers = λ f s. none_some f a.fault n s;
+    stays = λ f s. refl;
   }
 
-  err_inside : {A : Type 0} (f g : StoreFault) → ◌≡◌ {A = Result A StoreFault} (Err f) (Err g) → f ≡ g
-  err_inside f g e = cc e
-
-  pub keeps_err : {A T : Type 0} (a b : Held D) (f : StoreFault) → Keeps {T = A} meaning a b (Err f) → Keeps {T = T} meaning a b (Err f)
-  keeps_err a b f p = record {
-    loan = p.loan;
-    first = p.first;
-    shape = p.shape;
-    told = p.told;
-    reads = p.reads;
-    faults = p.faults;
-    kept = p.kept;
-    device = λ e. p.device (ap (λ (g : StoreFault). Err g) (err_inside f DeviceFault e));
+  pub cause_then : {A T : Type 0} (a b c : Held D) (x : A) (r : Result T StoreFault) → Keeps meaning a b → HasCause {T = A} meaning a b (Ok x) → HasCause meaning b c r → HasCause meaning a c r
+  cause_then a b c x r keeps p q = record {
+    device = λ n e. rose_later (meaning.fault_count a.disk) (meaning.fault_count b.disk) (meaning.fault_count c.disk) keeps.faults (q.device (p.kept n) e);
+    kept = λ n. q.kept (p.kept n);
+    goes_on = on_ok r (a.fault ≡ None) p.goes_on;
+    answers = λ f s. none_some f a.fault p.goes_on s;
+    stays = λ f s. none_some f a.fault p.goes_on s;
   }
+
+  -- after a call that went well the store has kept no fault
+  pub unspent_then : {A : Type 0} (a b : Held D) (x : A) → HasCause {T = A} meaning a b (Ok x) → b.fault ≡ None
+  unspent_then a b x p = p.kept p.goes_on

@@ -20,7 +20,8 @@ use Rattle.store_core.specs.declared.fault.StoreFault.TheVariants.{DeviceFault}
 use Rattle.store_core.specs.Adding.{Adds}
 use Rattle.recovery.specs.Next.{IsNext}
 use Rattle.recovery.specs.Coming.{HasCome, HasStopped, Comes, TookBack, WasClosed, Keeps}
-use Rattle.recovery.proofs.Going.{come_here, come_on, come_looked, come_made, come_refused, come_as, stopped_on, comes_ok, comes_err, keeps_here, keeps_of, keeps_on, keeps_ok}
+use Rattle.recovery.proofs.Going.{come_here, come_on, come_looked, come_made, come_refused, come_as, stopped_on, comes_ok, comes_err, keeps_here, keeps_of, keeps_on, cause_here, cause_then, unspent_then}
+use Rattle.store_core.proofs.Lookups.{cause_ok}
 
 -- the row blocks of a step are told where there was one
 some_left : (o : Option Step) (blocks : List ℕ) → Some blocks ≡ blocks_of_step o → (st : Step) × (o ≡ Some st)
@@ -44,12 +45,14 @@ module _ {D : Type 0} (meaning : Meaning D) where
 
   pub record BackLoop (t i : ℕ) (old now : Held D) : Type 0 where
     pub each : (R : List Record) → IsTrue meaning R old → IsFirst R t → Backing t i R old now
-    pub keeps : Keeps {T = Unit {0}} meaning old now (Ok tt)
+    pub keeps : Keeps meaning old now
+    pub cause : HasCause {T = Unit {0}} meaning old now (Ok tt)
 
   pub back_first : (t : ℕ) (a : Held D) → a.fault ≡ None → BackLoop t 0 a a
   back_first t a n = record {
     each = λ R h f. record { list = R; come = come_here meaning R a h; first = f; rest = refl; left = omega arith };
-    keeps = keeps_here meaning a n;
+    keeps = keeps_here meaning a;
+    cause = cause_here meaning a n;
   }
 
   -- one more step
@@ -76,7 +79,8 @@ module _ {D : Type 0} (meaning : Meaning D) where
       → ((Q : List Record) → IsTrue meaning Q b → is_active Q t ≡ true → Some blocks ≡ blocks_of_step (newest_of (standing Q) t)) → BackLoop t (i + 1) a c
   back_next t i a b c blocks l loan cause makes says = record {
     each = λ R h f. back_more t i R a b c blocks (l.each R h f) loan makes says;
-    keeps = keeps_on meaning a b c tt (Ok tt) l.keeps (keeps_ok meaning b c (Some blocks) tt (keeps_of meaning b c (Ok (Some blocks)) l.keeps.kept loan cause));
+    keeps = keeps_on meaning a b c l.keeps (keeps_of meaning b c loan);
+    cause = cause_then meaning a b c tt (Ok tt) l.keeps l.cause (cause_ok meaning b c (Some blocks) tt cause);
   }
 
   -- where none is left it is taken back
@@ -107,10 +111,7 @@ module _ {D : Type 0} (meaning : Meaning D) where
   back_refused t i a b c fault l loan makes R h f =
       let s = l.each R h f in
       let m = makes s.list s.come.is_true s.first.active in
-      comes_err meaning R (all_backed R t) a c fault (record { list = s.list; come = come_on meaning R s.list s.list a b c s.come (come_refused meaning s.list (backed s.list t) b c fault s.come.is_true loan m) }) (m.sound l.keeps.kept)
-
-  pub back_keeps : {T : Type 0} (t i : ℕ) (a b c : Held D) (r : Result T StoreFault) → BackLoop t i a b → SameLoan meaning b c → HasCause meaning b c r → Keeps meaning a c r
-  back_keeps t i a b c r l loan cause = keeps_on meaning a b c tt r l.keeps (keeps_of meaning b c r l.keeps.kept loan cause)
+      comes_err meaning R (all_backed R t) a c fault (record { list = s.list; come = come_on meaning R s.list s.list a b c s.come (come_refused meaning s.list (backed s.list t) b c fault s.come.is_true loan m) }) (m.sound (unspent_then meaning a b tt l.cause))
 
   -- after as many steps as the list has records none is left
   pub back_all : (t i most : ℕ) (a b : Held D) → BackLoop t i a b → ((R : List Record) → HasList meaning R a → most ≡ length R) → most ≤ i
@@ -167,9 +168,6 @@ module _ {D : Type 0} (meaning : Meaning D) where
   pub looked_stopped : {T : Type 0} (R : List Record) (a b : Held D) (fault : StoreFault) → IsTrue meaning R a → HasLooked {T = T} meaning a b (Err fault) → HasStopped meaning R a b
   looked_stopped R a b fault h look = record { list = R; come = come_looked meaning R a b (Err fault) h look }
 
-  pub keeps_looked : {T : Type 0} (a b : Held D) (r : Result T StoreFault) → a.fault ≡ None → HasLooked meaning a b r → Keeps meaning a b r
-  keeps_looked a b r n look = keeps_of meaning a b r n look.loan look.cause
-
   -- ---- all of them
 
   -- after i transactions
@@ -180,10 +178,11 @@ module _ {D : Type 0} (meaning : Meaning D) where
 
   pub record CloseLoop (i : ℕ) (old now : Held D) : Type 0 where
     pub each : (R : List Record) → IsTrue meaning R old → Closing i R old now
-    pub keeps : Keeps {T = Unit {0}} meaning old now (Ok tt)
+    pub keeps : Keeps meaning old now
+    pub cause : HasCause {T = Unit {0}} meaning old now (Ok tt)
 
   pub close_first : (a : Held D) → a.fault ≡ None → CloseLoop 0 a a
-  close_first a n = record { each = λ R h. record { list = R; come = come_here meaning R a h; left = omega arith }; keeps = keeps_here meaning a n }
+  close_first a n = record { each = λ R h. record { list = R; come = come_here meaning R a h; left = omega arith }; keeps = keeps_here meaning a; cause = cause_here meaning a n }
 
   close_more : (i : ℕ) (R : List Record) (a b c : Held D) → Closing i R a b → ((Q : List Record) → IsTrue meaning Q b → TookBack meaning Q b c) → Closing (i + 1) R a c
   close_more i R a b c s took =
@@ -193,10 +192,11 @@ module _ {D : Type 0} (meaning : Meaning D) where
       let before = s.left in
       record { list = rolled_back Q next.txn; come = come_on meaning R Q (rolled_back Q next.txn) a b c s.come next.come; left = omega (arith, fewer, before) }
 
-  pub close_next : (i : ℕ) (a b c : Held D) (y : Bool) → CloseLoop i a b → ((Q : List Record) → IsTrue meaning Q b → TookBack meaning Q b c) → Keeps {T = Bool} meaning b c (Ok y) → CloseLoop (i + 1) a c
-  close_next i a b c y l took keeps = record {
+  pub close_next : (i : ℕ) (a b c : Held D) (y : Bool) → CloseLoop i a b → ((Q : List Record) → IsTrue meaning Q b → TookBack meaning Q b c) → Keeps meaning b c → HasCause {T = Bool} meaning b c (Ok y) → CloseLoop (i + 1) a c
+  close_next i a b c y l took keeps cause = record {
     each = λ R h. close_more i R a b c (l.each R h) took;
-    keeps = keeps_on meaning a b c tt (Ok tt) l.keeps (keeps_ok meaning b c y tt keeps);
+    keeps = keeps_on meaning a b c l.keeps keeps;
+    cause = cause_then meaning a b c tt (Ok tt) l.keeps l.cause (cause_ok meaning b c y tt cause);
   }
 
   pub close_done : (i : ℕ) (a b c : Held D) → CloseLoop i a b → ((Q : List Record) → IsTrue meaning Q b → WasClosed meaning Q b c) → (R : List Record) → IsTrue meaning R a → Comes {T = Unit {0}} meaning R (closed R) a c (Ok tt)

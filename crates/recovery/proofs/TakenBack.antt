@@ -1,6 +1,5 @@
 -- What is taken back over the disk that a store was lent.
-use Rattle.std.proofs.Common.{◌≡◌, inl, inr, ◌↔◌, ℕ, ◌≤◌, List, length, refl, sym, ◌∙◌, ap, subst, arith, Ok, Err, le_trans}
-use Rattle.std.specs.Prelude.{Result}
+use Rattle.std.proofs.Common.{◌≡◌, inl, inr, ◌↔◌, ℕ, ◌≤◌, List, length, None, refl, sym, ◌∙◌, ap, subst, arith, Ok, Err, le_trans}
 use Rattle.std.specs.Borrow.{GName}
 use Rattle.seg_words.specs.Types.{Shape, Rose}
 use Rattle.disk_model.specs.Files.{Files}
@@ -15,10 +14,12 @@ use Rattle.rollback_laws.proofs.GoesOnLaw.{closing_goes_on}
 use Rattle.store_files.specs.Store.{IsDurable}
 use Rattle.store_core.specs.Store.{Held, Read, IsTrue, with_disk}
 use Rattle.store_core.specs.Survives.{IsSound, IsLeft, Survives}
+use Rattle.store_core.specs.Causes.{HasCause}
 use Rattle.store_core.specs.declared.fault.StoreFault.{StoreFault}
+use Rattle.store_core.proofs.Lookups.{cause_err}
 use Rattle.recovery.specs.Coming.{HasCome, Comes, Keeps}
 use Rattle.recovery.specs.Opened.{Reopens, ReopensSince, TakesBack}
-use Rattle.recovery.proofs.Going.{extends_on, keeps_err}
+use Rattle.recovery.proofs.Going.{extends_on, unspent_then}
 
 -- ---- what a crash leaves
 
@@ -108,14 +109,14 @@ module _ {D : Type 0} (meaning : Meaning D) where
     true_at : (R : List Record) → IsTrue meaning R (with_disk before loan old) → IsTrue meaning R a
     true_at R h = subst (IsTrue meaning R) (sym over) h
 
-    moments : {T : Type 0} (r : Result T StoreFault) (since : ℕ) (R Q : List Record) → Keeps meaning (with_disk before loan old) b r → IsTrue meaning R (with_disk before loan old) → HasCome meaning R Q (with_disk before loan old) b
+    moments : (since : ℕ) (R Q : List Record) → Keeps meaning (with_disk before loan old) b → IsTrue meaning R (with_disk before loan old) → HasCome meaning R Q (with_disk before loan old) b
         → Survives meaning since (λ m. length R) R (with_disk before loan old) → ReopensSince meaning since old.shape R (meaning.files old.first).data_bytes after
-    moments r since R Q keeps is come survives = subst (λ (d : D). ReopensSince meaning since old.shape R (meaning.files old.first).data_bytes d) (sym left) (reopens_come R Q (with_disk before loan old) b since keeps.shape keeps.first is come survives)
+    moments since R Q keeps is come survives = subst (λ (d : D). ReopensSince meaning since old.shape R (meaning.files old.first).data_bytes d) (sym left) (reopens_come R Q (with_disk before loan old) b since keeps.shape keeps.first is come survives)
 
-    pub taken_ok : (new : Read D) → with_disk b.disk b.loan new ≡ b → Keeps {T = Unit {0}} meaning a b (Ok tt) → ((R : List Record) → IsTrue meaning R a → Comes {T = Unit {0}} meaning R (closed R) a b (Ok tt))
+    pub taken_ok : (new : Read D) → with_disk b.disk b.loan new ≡ b → Keeps meaning a b → HasCause {T = Unit {0}} meaning a b (Ok tt) → ((R : List Record) → IsTrue meaning R a → Comes {T = Unit {0}} meaning R (closed R) a b (Ok tt))
         → ((R : List Record) → IsTrue meaning R a → b.log.stable ≡ length (closed R)) → TakesBack meaning before after old (Ok new)
-    taken_ok new parts keeps comes stable =
-        let kept = subst (λ (s : Held D). Keeps {T = Unit {0}} meaning s b (Ok tt)) over keeps in
+    taken_ok new parts keeps cause comes stable =
+        let kept = subst (λ (s : Held D). Keeps meaning s b) over keeps in
         record {
           done = λ R t. (
             λ k. subst (λ (d : D). IsTrue meaning (closed R) (with_disk d k new)) (sym left) (true_over (closed R) b.disk b.loan k new (subst (IsTrue meaning (closed R)) (sym parts) (comes R (true_at R (t loan))).done.is_true)),
@@ -125,28 +126,28 @@ module _ {D : Type 0} (meaning : Meaning D) where
           survives = λ since needed R t h k.
               subst (λ (d : D). Survives meaning since needed (closed R) (with_disk d k new)) (sym left) (survives_over since needed (closed R) b.disk b.loan k new
               (subst (Survives meaning since needed (closed R)) (sym parts) ((come_over R (closed R) (comes R (true_at R (t loan))).done).survives since needed (h loan))));
-          any_moment = λ since R t h. moments {T = Unit {0}} (Ok tt) since R (closed R) kept (t loan) (come_over R (closed R) (comes R (true_at R (t loan))).done) (h loan);
-          kept = (ap (λ (s : Held D). s.first) parts ∙ kept.first, ap (λ (s : Held D). s.shape) parts ∙ kept.shape, ap (λ (s : Held D). s.fault) parts ∙ kept.kept);
+          any_moment = λ since R t h. moments since R (closed R) kept (t loan) (come_over R (closed R) (comes R (true_at R (t loan))).done) (h loan);
+          kept = (ap (λ (s : Held D). s.first) parts ∙ kept.first, ap (λ (s : Held D). s.shape) parts ∙ kept.shape, ap (λ (s : Held D). s.fault) parts ∙ unspent_then meaning a b tt cause);
           cause = record { later = subst (λ (d : D). meaning.fault_count before ≤ meaning.fault_count d) (sym left) kept.faults; rose = λ e. absurd (cc e) };
           told = subst (λ (d : D). meaning.told d ↔ meaning.told before) (sym left) kept.told;
         }
 
-    pub taken_err : (fault : StoreFault) → Keeps {T = Unit {0}} meaning a b (Err fault) → ((R : List Record) → IsTrue meaning R a → Comes {T = Unit {0}} meaning R (closed R) a b (Err fault)) → TakesBack meaning before after old (Err fault)
-    taken_err fault keeps comes =
-        let was : Held D = with_disk before loan old in
-        let kept : Keeps {T = Read D} meaning was b (Err fault) = keeps_err meaning was b fault (subst (λ (s : Held D). Keeps {T = Unit {0}} meaning s b (Err fault)) over keeps) in
+    pub taken_err : (fault : StoreFault) → old.fault ≡ None → Keeps meaning a b → HasCause {T = Unit {0}} meaning a b (Err fault) → ((R : List Record) → IsTrue meaning R a → Comes {T = Unit {0}} meaning R (closed R) a b (Err fault)) → TakesBack meaning before after old (Err fault)
+    taken_err fault unspent keeps cause comes =
+        let kept = subst (λ (s : Held D). Keeps meaning s b) over keeps in
+        let why = subst (λ (s : Held D). HasCause {T = Read D} meaning s b (Err fault)) over (cause_err meaning a b fault cause) in
         record {
           done = λ R t. tt;
           sound = λ R t. (comes R (true_at R (t loan))).sound;
           survives = λ since needed R t h. tt;
           any_moment = λ since R t h. (
               let stop = (comes R (true_at R (t loan))).stopped in
-              moments {T = Read D} (Err fault) since R stop.list kept (t loan) (come_over R stop.list stop.come) (h loan)
+              moments since R stop.list kept (t loan) (come_over R stop.list stop.come) (h loan)
               );
           kept = tt;
           cause = record {
             later = subst (λ (d : D). meaning.fault_count before ≤ meaning.fault_count d) (sym left) kept.faults;
-            rose = λ e. subst (λ (d : D). Rose (meaning.fault_count before) (meaning.fault_count d)) (sym left) (kept.device e);
+            rose = λ e. subst (λ (d : D). Rose (meaning.fault_count before) (meaning.fault_count d)) (sym left) (why.device unspent e);
           };
           told = subst (λ (d : D). meaning.told d ↔ meaning.told before) (sym left) kept.told;
         }

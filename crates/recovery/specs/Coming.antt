@@ -1,15 +1,13 @@
 -- How far an opening has come with a store.
-use Rattle.std.specs.Prelude.{◌≡◌, ◌↔◌, ℕ, ◌≤◌, Bool, true, false, List, Result, OnOk, OnErr, IfErr, IsErrOf}
-use Rattle.seg_words.specs.Types.{Rose}
+use Rattle.std.specs.Prelude.{◌≡◌, ◌↔◌, ℕ, ◌≤◌, Bool, true, false, List, Result, OnOk, OnErr, IfErr}
 use Rattle.disk_model.specs.Crash.{Meaning}
 use Rattle.redo_model.specs.Records.{Record}
 use Rattle.redo_model.specs.Model.{Extends}
 use Rattle.rollback_laws.specs.Closing.{closed, rolled_back, IsFirst}
 use Rattle.store_core.specs.Store.{Held, IsTrue}
 use Rattle.store_core.specs.Survives.{Survives}
-use Rattle.store_core.specs.Causes.{IsSoundFault, kept_fault}
+use Rattle.store_core.specs.Causes.{IsSoundFault}
 use Rattle.store_core.specs.declared.fault.StoreFault.{StoreFault}
-use Rattle.store_core.specs.declared.fault.StoreFault.TheVariants.{DeviceFault}
 
 -- The store had the records R and has Q, on the way to the list that an opening makes of R; what survives a crash goes on surviving
 -- it. The clock doesn't fall.
@@ -49,16 +47,13 @@ abbrev pub ComesNext : {D : Type 0} → Meaning D → List Record → Held D →
 ComesNext meaning R old new true = TookBack meaning R old new
 ComesNext meaning R old new false = WasClosed meaning R old new
 
--- The disk's loan, the disk as it was when it was lent, and the shape are as before; no call read the log; the store keeps the fault
--- that it answers; and it answers that of the disk only where the count of faults rose, which doesn't fall. Of a store whose records
--- aren't lawful no more is known after a step of a rollback, not that it has a list: what the clock does is said of true stores,
--- by HasCome.
-pub record Keeps {D T : Type 0} (meaning : Meaning D) (old new : Held D) (result : Result T StoreFault) : Type 0 where
+-- The disk's loan, the disk as it was when it was lent, and the shape are as before; no call read the log; and the count of faults
+-- doesn't fall. It is SameLoan without the clock: of a store whose records aren't lawful no list is known after a step of a rollback.
+-- HasCome has the clock of a true store.
+pub record Keeps {D : Type 0} (meaning : Meaning D) (old new : Held D) : Type 0 where
   pub loan : new.loan ≡ old.loan
   pub first : new.first ≡ old.first
   pub shape : new.shape ≡ old.shape
   pub told : meaning.told new.disk ↔ meaning.told old.disk
   pub reads : meaning.log_reads new.disk ≡ meaning.log_reads old.disk
   pub faults : meaning.fault_count old.disk ≤ meaning.fault_count new.disk
-  pub kept : new.fault ≡ kept_fault result
-  pub device : IsErrOf result DeviceFault → Rose (meaning.fault_count old.disk) (meaning.fault_count new.disk)

@@ -3,7 +3,7 @@ ghost use Rattle.std.specs.Prelude.{◌≡◌, List, length, None, OnOk, OnErr, 
 ghost use Rattle.redo_model.specs.Records.{Record};
 ghost use Rattle.rollback_laws.specs.Closing.{all_backed, closed, rolled_back, IsFirst};
 ghost use Rattle.store_core.specs.Store.{IsTrue};
-ghost use Rattle.store_core.specs.Causes.{IsSoundFault};
+ghost use Rattle.store_core.specs.Causes.{HasCause, IsSoundFault};
 ghost use Rattle.recovery.specs.Coming.{Comes, ComesNext, HasStopped, Keeps};
 
 use crate::next::next_active;
@@ -17,7 +17,8 @@ use txn_end::{back_step, end_back};
 fn take_back_all<D: Disk>(alloc: Global, store: &mut Store<D>, txn: TxnId) -> Result<(), StoreFault>
     requires unspent { store.old.fault ≡ None }
     ensures comes { (R : List Record) → IsTrue D.meaning R store.old → IsFirst R txn → Comes D.meaning R (all_backed R txn) store.old store.new result }
-    ensures keeps { Keeps D.meaning store.old store.new result }
+    ensures keeps { Keeps D.meaning store.old store.new }
+    ensures cause { HasCause D.meaning store.old store.new result }
 {
     for _ in 0..store.log_len() {
         match back_step(alloc, store, txn) {
@@ -33,7 +34,8 @@ fn take_back_all<D: Disk>(alloc: Global, store: &mut Store<D>, txn: TxnId) -> Re
 fn roll_back<D: Disk>(alloc: Global, store: &mut Store<D>, txn: TxnId) -> Result<(), StoreFault>
     requires unspent { store.old.fault ≡ None }
     ensures comes { (R : List Record) → IsTrue D.meaning R store.old → IsFirst R txn → Comes D.meaning R (rolled_back R txn) store.old store.new result }
-    ensures keeps { Keeps D.meaning store.old store.new result }
+    ensures keeps { Keeps D.meaning store.old store.new }
+    ensures cause { HasCause D.meaning store.old store.new result }
 {
     match take_back_all(alloc, store, txn) {
         Ok(()) => end_back(alloc, store, txn),
@@ -47,7 +49,8 @@ fn roll_back_next<D: Disk>(alloc: Global, store: &mut Store<D>) -> Result<bool, 
     ensures next { (R : List Record) → IsTrue D.meaning R store.old → IfOk result (ComesNext D.meaning R store.old store.new) }
     ensures stopped { (R : List Record) → IsTrue D.meaning R store.old → OnErr result (HasStopped D.meaning R store.old store.new) }
     ensures sound { (R : List Record) → IsTrue D.meaning R store.old → IfErr result IsSoundFault }
-    ensures keeps { Keeps D.meaning store.old store.new result }
+    ensures keeps { Keeps D.meaning store.old store.new }
+    ensures cause { HasCause D.meaning store.old store.new result }
 {
     match next_active(alloc, store) {
         Ok(None) => Ok(false),
@@ -63,7 +66,8 @@ fn roll_back_next<D: Disk>(alloc: Global, store: &mut Store<D>) -> Result<bool, 
 fn roll_back_all<D: Disk>(alloc: Global, store: &mut Store<D>) -> Result<(), StoreFault>
     requires unspent { store.old.fault ≡ None }
     ensures comes { (R : List Record) → IsTrue D.meaning R store.old → Comes D.meaning R (closed R) store.old store.new result }
-    ensures keeps { Keeps D.meaning store.old store.new result }
+    ensures keeps { Keeps D.meaning store.old store.new }
+    ensures cause { HasCause D.meaning store.old store.new result }
 {
     for _ in 0..TXN_ENTRIES {
         match roll_back_next(alloc, store) {
@@ -81,7 +85,8 @@ pub fn take_back_active<D: Disk>(alloc: Global, store: &mut Store<D>) -> Result<
     requires unspent { store.old.fault ≡ None }
     ensures comes { (R : List Record) → IsTrue D.meaning R store.old → Comes D.meaning R (closed R) store.old store.new result }
     ensures all_stable { (R : List Record) → IsTrue D.meaning R store.old → OnOk result (store.new.log.stable ≡ length (closed R)) }
-    ensures keeps { Keeps D.meaning store.old store.new result }
+    ensures keeps { Keeps D.meaning store.old store.new }
+    ensures cause { HasCause D.meaning store.old store.new result }
 {
     match roll_back_all(alloc, store) {
         Ok(()) => store.flush_log(),

@@ -13,7 +13,7 @@ pub returns-in-Err-clause-comes : goal.returns-in-Err-clause-comes
 returns-in-Err-clause-comes g c = λ R h. close_refused g.D.Disk.meaning c.loop.counter c.args.store.now c.loop.store c.roll_back_next.new.store c.in-Err.fault c.loop.invariant (λ Q q. c.in-Err.ensures.stopped Q q) (λ Q q. c.in-Err.ensures.sound Q q) R h
 
 pub loop-preserved : goal.loop-preserved
-loop-preserved g c = close_next g.D.Disk.meaning c.loop.counter c.args.store.now c.loop.store c.roll_back_next.new.store c.in-Ok-true.field-0 c.loop.invariant (λ Q q. subst (λ (b : Bool). ComesNext g.D.Disk.meaning Q c.loop.store c.roll_back_next.new.store b) c.in-Ok-true.field-0-test (c.in-Ok-true.ensures.next Q q)) c.in-Ok-true.ensures.keeps
+loop-preserved g c = close_next g.D.Disk.meaning c.loop.counter c.args.store.now c.loop.store c.roll_back_next.new.store c.in-Ok-true.field-0 c.loop.invariant (λ Q q. subst (λ (b : Bool). ComesNext g.D.Disk.meaning Q c.loop.store c.roll_back_next.new.store b) c.in-Ok-true.field-0-test (c.in-Ok-true.ensures.next Q q)) c.in-Ok-true.ensures.keeps c.in-Ok-true.ensures.cause
 
 pub returns-clause-comes : goal.returns-clause-comes
 returns-clause-comes g c = λ R h. close_all g.D.Disk.meaning c.loop.counter c.args.store.now c.loop.store c.loop.invariant c.loop-test.false R h

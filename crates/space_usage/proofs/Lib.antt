@@ -1,0 +1,4 @@
+pub mod Naming
+pub mod Stored
+pub mod Bitmaps
+pub mod Drafting

@@ -1,0 +1,4 @@
+pub mod Named
+pub mod Asked
+pub mod Keeping
+pub mod Settles

@@ -1,5 +1,5 @@
 // The next movement of a table's marks.
-ghost use Rattle.std.specs.Prelude.{ℕ, ◌≡◌, ◌≤◌, ◌<◌, true, None, List, IfOk, IfErr};
+ghost use Rattle.std.specs.Prelude.{◌≡◌, ◌≤◌, ◌<◌, true, None, List, IfOk, IfErr};
 ghost use Rattle.seg_words.specs.Types.{is_shape};
 ghost use Rattle.redo_model.specs.Records.{Record};
 ghost use Rattle.redo_model.specs.Model.{IsTable, first_unformatted, under_high};

@@ -2,7 +2,7 @@
 ghost use Rattle.std.specs.Prelude.{ℕ, ◌≡◌, ◌≤◌, ◌<◌, ◌+◌, ◌-◌, min, true, false, None, Some, List, length, find, IfOk, IfErr};
 ghost use Rattle.seg_words.specs.Types.{MOST_BLOCKS, MOST_EXTENT_BLOCKS, MOST_PCTFREE, head_blocks as heads_of, is_shape};
 ghost use Rattle.redo_model.specs.Records.{Record};
-ghost use Rattle.redo_model.specs.Model.{Extent, data_blocks, extent_at, extents_of, high_mark, under_high};
+ghost use Rattle.redo_model.specs.Model.{Extent, data_blocks, extent_at, extents_of, under_high};
 ghost use Rattle.data_places.specs.Places.{data_count};
 ghost use Rattle.store_core.specs.Causes.{HasLooked, IsSoundFault};
 ghost use Rattle.store_core.specs.Store.{IsTrue};
@@ -78,7 +78,8 @@ fn may_have<D: Disk>(
     }
 }
 
-/// The same in the extent at this index, which is passed over where its second level says that it has none.
+/// The first one among those blocks of the extent at this index, which is passed over where its second level says that it has
+/// none.
 fn first_there<D: Disk>(
     store: &mut Store<D>,
     look: &Look,

@@ -1,5 +1,5 @@
 -- What a batch takes, and what it leaves.
-use Rattle.std.proofs.Common.{◌≤◌, ◌≡◌, ℕ, zero, suc, ◌+◌, ◌<◌, Bool, true, false, not, ◌&&◌, List, [], ◌∷◌, ◌++◌, Option, Some, None, IsSome, is_some, refl, sym, ap, subst, arith, cond, nat_eq, nat_le, length, map, take, ◌∙◌, get_or, ◌||◌, option_map, append_assoc, add-one, min}
+use Rattle.std.proofs.Common.{◌≤◌, ◌≡◌, ℕ, zero, suc, ◌+◌, ◌<◌, Bool, true, false, not, ◌&&◌, List, [], ◌∷◌, ◌++◌, Option, Some, None, IsSome, is_some, refl, sym, ap, subst, arith, cond, nat_eq, nat_le, length, map, take, ◌∙◌, get_or, ◌||◌, option_map, append_assoc, add-one}
 use Rattle.std.specs.List.{All, AllByRecursion, list_all, list_any, IsDistinct}
 use Rattle.std.specs.List.Sorted.{IsPermutation}
 use Rattle.std.specs.Map.{keys_of, set_value, values_of}
@@ -25,7 +25,7 @@ use Rattle.page_set.specs.Pages.{dba_of, lsn_of}
 use Rattle.page_set.specs.Spelled.{HasSpelling, meaning_of, spelling_of}
 use Rattle.page_set.proofs.ReadAgain.{meaning_again}
 use Rattle.buffer_pool.specs.declared.frame.Frame.{Frame}
-use Rattle.buffer_pool.specs.Frames.{dirty_count, frame_at, framed, has_page, page_over, weight, HasOnlyPages, IsDirty, IsShown, IsWritten, Shows}
+use Rattle.buffer_pool.specs.Frames.{dirty_count, frame_at, framed, has_page, page_over, weight, HasOnlyPages, IsDirty, IsShown, Shows}
 use Rattle.buffer_pool.specs.Batches.{cleaned, due_blocks, is_due, raw_page, AreUpTo, ReadBack, Settled}
 use Rattle.buffer_pool.proofs.Drops.{one_number}
 
@@ -312,3 +312,10 @@ settled_blocks ns batch held old new is s = subst (λ (xs : List ℕ). Settled x
 
 pub dirty_there : (n : ℕ) (f : Frame) (k : ℕ) (es : List (ℕ × Frame)) → nat_eq k n ≡ false → IsDirty (frame_at ((n, f) ∷ es) k) → IsDirty (frame_at es k)
 dirty_there n f k es other h = rw other at h
+
+pub batch_length : (held : List (ℕ × Frame)) (ns : List ℕ) (batch : List RawPage) → batch ≡ map (raw_page held) ns → length batch ≡ length ns
+batch_length held ns batch is = ap (λ (ps : List RawPage). length ps) is ∙ each ns
+  where
+    each : (ns : List ℕ) → length (map (raw_page held) ns) ≡ length ns
+    each [] = refl
+    each (n ∷ ns) = omega (arith, each ns)

@@ -1,6 +1,6 @@
 -- What reading the page of a block tells of the block's bytes.
-use Rattle.std.proofs.Common.{◌≡◌, ◌⊎◌, inl, inr, ℕ, ◌+◌, ◌*◌, ◌<◌, ◌≤◌, true, List, [], ◌∷◌, length, Ok, Err, refl, sym, ap, subst, arith, ◌∙◌}
-use Rattle.std.proofs.lemmas.Bool.{true≢false, eq-eqb}
+use Rattle.std.proofs.Common.{◌≡◌, inl, inr, ℕ, true, List, [], ◌∷◌, length, Ok, Err, refl, sym, ap, subst, arith, ◌∙◌}
+use Rattle.std.proofs.lemmas.Bool.{eq-eqb}
 use Rattle.seg_words.specs.Types.{Shape, BLOCK_SIZE}
 use Rattle.page_bytes.specs.Types.{first_wrong}
 use Rattle.page_bytes.specs.declared.fault.PageFault.{PageFault as DecodeFault}

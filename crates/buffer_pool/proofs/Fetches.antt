@@ -1,5 +1,5 @@
 -- What bringing a block into a frame answers, and which frames there are afterwards.
-use Rattle.std.proofs.Common.{◌≡◌, ◌⊎◌, inl, inr, ℕ, Bool, true, false, List, [], ◌∷◌, Option, Some, None, IsSome, is_some, Result, Err, Ok, refl, sym, ap, subst, arith, cond, nat_eq, ◌∙◌}
+use Rattle.std.proofs.Common.{◌≡◌, ◌⊎◌, inl, inr, ℕ, Bool, true, false, List, [], ◌∷◌, Option, Some, None, IsSome, is_some, Result, Err, Ok, refl, sym, subst, arith, cond, nat_eq}
 use Rattle.std.proofs.lemmas.Bool.{true≢false}
 use Rattle.std.proofs.lemmas.Bool.Decides.{nat_tests}
 use Rattle.seg_words.specs.Types.{Shape}

@@ -1,19 +1,16 @@
 -- Bringing the blocks of records into frames, one after the other.
-use Rattle.std.proofs.Common.{◌≡◌, ℕ, zero, suc, ◌+◌, ◌<◌, ◌≤◌, Bool, true, false, ◌||◌, nat_eq, List, [], ◌∷◌, ◌++◌, length, get_or, take, Option, Some, None, IsSome, Err, refl, sym, ap, subst, arith, ◌∙◌}
+use Rattle.std.proofs.Common.{◌≡◌, ℕ, zero, suc, ◌≤◌, Bool, true, false, ◌||◌, nat_eq, List, [], ◌∷◌, length, drop, take, slice_index_or, Option, Some, None, Err, refl, sym, subst, arith}
 use Rattle.std.proofs.lemmas.Bool.{true≢false, eq-eqb, eqb-true}
-use Rattle.std.proofs.lemmas.List.{take_all}
 use Rattle.seg_words.specs.Types.{Shape}
-use Rattle.seg_words.proofs.Lemmas.{take_more}
 use Rattle.disk_model.specs.Types.{Meaning}
 use Rattle.page_store.specs.Types.{IsStore}
 use Rattle.page_store.specs.declared.fault.PageFault.{PageFault}
 use Rattle.page_store.specs.declared.fault.PageFault.TheVariants.{DeviceFault, BadPage, NoMemory}
 use Rattle.page_set.specs.Among.{is_among}
 use Rattle.buffer_pool.specs.declared.frame.Frame.{Frame}
-use Rattle.buffer_pool.specs.Frames.{frame_at, has_page, IsSpelled, KeepsFrames, Pool, SameDirty}
+use Rattle.buffer_pool.specs.Frames.{frame_at, has_page, IsSpelled, Pool, SameDirty}
 use Rattle.buffer_pool.specs.Reading.{IsFetching, WhyNotFetched}
 use Rattle.buffer_pool.specs.Looks.{Looks}
-use Rattle.buffer_pool.specs.Preparing.{AreFramed}
 use Rattle.buffer_pool.proofs.Stores.{store_stays}
 
 or_true : (a b : Bool) → b ≡ true → (a || b) ≡ true
@@ -33,6 +30,23 @@ no_frame (Some g) f e h = some_none e
   where
     some_none : Some g ≡ None → ⊥
     some_none e = cc
+
+among_first : (ds : List ℕ) (d : ℕ) → 1 ≤ length ds → d ≡ slice_index_or ds 0 d → is_among ds d ≡ true
+among_first [] d some is = absurd (omega (arith, some))
+among_first (x ∷ ds) d some is = or_first (nat_eq x d) (is_among ds d) (eq-eqb x d (sym is))
+
+or_either : (a b c : Bool) → (b ≡ true → c ≡ true) → (a || b) ≡ true → (a || c) ≡ true
+or_either true b c f h = refl
+or_either false b c f h = f h
+
+among_take : (n : ℕ) (ds : List ℕ) (d : ℕ) → is_among (take n ds) d ≡ true → is_among ds d ≡ true
+among_take zero ds d h = absurd (true≢false (sym h))
+among_take (suc n) [] d h = h
+among_take (suc n) (x ∷ ds) d h = or_either (nat_eq x d) (is_among (take n ds) d) (is_among ds d) (among_take n ds d) h
+
+among_rest : (ds : List ℕ) (d : ℕ) → is_among (drop 1 ds) d ≡ true → is_among ds d ≡ true
+among_rest [] d h = h
+among_rest (x ∷ ds) d h = or_true (nat_eq x d) (is_among ds d) h
 
 module _ (sh : Shape) (pages : ℕ → List ℕ) where
   pub why_first : (held : List (ℕ × Frame)) (d : ℕ) (ds : List ℕ) (e : PageFault) → IsFetching sh d (IsSpelled d (pages d)) (frame_at held d) (Err e) → WhyNotFetched sh pages held (d ∷ ds) e
@@ -69,39 +83,24 @@ module _ (sh : Shape) (pages : ℕ → List ℕ) where
       is_it false e h = absurd (true≢false (sym h))
   of_one a d ds NoMemory among h = tt
 
--- the i-th of them
-among_at : (ds : List ℕ) (i : ℕ) → i < length ds → is_among ds (get_or ds i 0) ≡ true
-among_at [] i lt = absurd (omega (arith, lt))
-among_at (d ∷ ds) zero lt = or_first (nat_eq d d) (is_among ds d) (eq-eqb d d refl)
-among_at (d ∷ ds) (suc i) lt = or_true (nat_eq d (get_or ds i 0)) (is_among ds (get_or ds i 0)) (among_at ds i (omega (arith, lt)))
+  -- the first of them
+  pub why_head : (a : List (ℕ × Frame)) (ds : List ℕ) (d : ℕ) (e : PageFault) → 1 ≤ length ds → d ≡ slice_index_or ds 0 d → IsFetching sh d (IsSpelled d (pages d)) (frame_at a d) (Err e) → WhyNotFetched sh pages a ds e
+  why_head a ds d e some is h = of_one a d ds e (among_first ds d some is) (why_first a d [] e h)
+
+  -- one of those behind it
+  pub why_behind : (a b : List (ℕ × Frame)) (ds : List ℕ) (n : ℕ) (e : PageFault) → SameDirty a b → WhyNotFetched sh pages b (take n (drop 1 ds)) e → WhyNotFetched sh pages a ds e
+  why_behind a b ds n DeviceFault same h = tt
+  why_behind a b ds n (BadPage x) same h = (among_rest ds x (among_take n (drop 1 ds) x h.0), still_why a b x same h.1, h.2)
+  why_behind a b ds n NoMemory same h = tt
 
 module _ {D : Type 0} (meaning : Meaning D) (d0 d1 : D) (p q : Pool) (looks : Looks meaning d0 d1 p q) (pages : ℕ → List ℕ) (s : IsStore meaning d0 p.shape pages) where
   store_now : IsStore meaning d1 q.shape pages
   store_now = subst (λ (sh : Shape). IsStore meaning d1 sh pages) (sym looks.shape) (store_stays meaning d0 d1 p.shape pages s looks.untouched)
 
-  pub why_at : (ds : List ℕ) (i : ℕ) (e : PageFault) → i < length ds
-      → ((pages : ℕ → List ℕ) → IsStore meaning d1 q.shape pages → IsFetching q.shape (get_or ds i 0) (IsSpelled (get_or ds i 0) (pages (get_or ds i 0))) (frame_at q.held (get_or ds i 0)) (Err e))
-      → WhyNotFetched p.shape pages p.held ds e
-  why_at ds i e lt fetching =
-      let d : ℕ = get_or ds i 0 in
-      let is : IsFetching p.shape d (IsSpelled d (pages d)) (frame_at q.held d) (Err e) =
-      subst (λ (sh : Shape). IsFetching sh d (IsSpelled d (pages d)) (frame_at q.held d) (Err e)) looks.shape (fetching pages store_now) in
-      still_why_not p.shape pages p.held q.held ds e looks.same (of_one p.shape pages q.held d ds e (among_at ds i lt) (why_first p.shape pages q.held d [] e is))
+  pub why_rest : (ds : List ℕ) (n : ℕ) (e : PageFault) → ((pages : ℕ → List ℕ) → IsStore meaning d1 q.shape pages → WhyNotFetched q.shape pages q.held (take n (drop 1 ds)) e) → WhyNotFetched p.shape pages p.held ds e
+  why_rest ds n e why =
+      why_behind p.shape pages p.held q.held ds n e looks.same (subst (λ (sh : Shape). WhyNotFetched sh pages q.held (take n (drop 1 ds)) e) looks.shape (why pages store_now))
 
   pub why_then : (ds : List ℕ) (e : PageFault) → ((pages : ℕ → List ℕ) → IsStore meaning d1 q.shape pages → WhyNotFetched q.shape pages q.held ds e) → WhyNotFetched p.shape pages p.held ds e
   why_then ds e why =
       still_why_not p.shape pages p.held q.held ds e looks.same (subst (λ (sh : Shape). WhyNotFetched sh pages q.held ds e) looks.shape (why pages store_now))
-
-pub framed_still : (sh : Shape) (ds : List ℕ) (a b : List (ℕ × Frame)) → KeepsFrames a b → AreFramed sh ds a → AreFramed sh ds b
-framed_still sh [] a b keeps h = tt
-framed_still sh (d ∷ ds) a b keeps h = (h.0, keeps.at d h.1, framed_still sh ds a b keeps h.2)
-
-pub framed_more : (sh : Shape) (ds : List ℕ) (i : ℕ) (a b : List (ℕ × Frame)) → i < length ds → KeepsFrames a b → AreFramed sh (take i ds) a → has_page sh (get_or ds i 0) ≡ true → IsSome (frame_at b (get_or ds i 0)) → AreFramed sh (take (i + 1) ds) b
-framed_more sh ds i a b lt keeps h has some = subst (λ (xs : List ℕ). AreFramed sh xs b) (sym (take_more ds i 0 lt)) (behind (take i ds) (framed_still sh (take i ds) a b keeps h))
-  where
-    behind : (xs : List ℕ) → AreFramed sh xs b → AreFramed sh (xs ++ get_or ds i 0 ∷ []) b
-    behind [] h = (has, some, tt)
-    behind (x ∷ xs) h = (h.0, h.1, behind xs h.2)
-
-pub framed_all : (sh : Shape) (ds : List ℕ) (n : ℕ) (held : List (ℕ × Frame)) → length ds ≤ n → AreFramed sh (take n ds) held → AreFramed sh ds held
-framed_all sh ds n held le h = subst (λ (xs : List ℕ). AreFramed sh xs held) (take_all n ds le) h

@@ -1,7 +1,6 @@
 -- What records make of the pages in their frames.
-use Rattle.std.proofs.Common.{◌≡◌, ◌⊎◌, inl, inr, ℕ, suc, ◌+◌, ◌<◌, ◌≤◌, Bool, true, false, ◌&&◌, ◌||◌, cond, nat_eq, nat_lt, List, [], ◌∷◌, ◌++◌, length, Option, Some, None, IsSome, Result, Ok, Err, refl, sym, ap, subst, arith, ◌∙◌, append_assoc, append-nil}
+use Rattle.std.proofs.Common.{◌≡◌, inl, inr, ℕ, suc, ◌+◌, Bool, true, false, ◌&&◌, ◌||◌, cond, nat_eq, nat_lt, List, [], ◌∷◌, ◌++◌, length, Option, Some, None, IsSome, Err, refl, sym, ap, subst, arith, ◌∙◌, append_assoc, append-nil}
 use Rattle.std.proofs.lemmas.Bool.{true≢false, eqb-true, eq-eqb, lt-ltb, cases_Bool}
-use Rattle.std.proofs.lemmas.Bool.Decides.{nat_tests}
 use Rattle.seg_words.specs.Types.{Shape}
 use Rattle.redo_record.specs.declared.record.Record.{Record}
 use Rattle.page_store.specs.declared.fault.PageFault.{PageFault}
@@ -9,16 +8,16 @@ use Rattle.page_store.specs.declared.fault.PageFault.TheVariants.{DeviceFault, B
 use Rattle.page_set.specs.declared.page.Page.{Page}
 use Rattle.page_set.specs.declared.page.Page.TheVariants.{Zero}
 use Rattle.page_set.specs.Pages.{lsn_of}
-use Rattle.page_set.specs.Changes.{changed_page, Fits}
+use Rattle.page_set.specs.Changes.{changed_page}
 use Rattle.page_set.specs.Among.{is_among}
 use Rattle.page_set.specs.Folded.{touched, touched_once, page_of}
 use Rattle.page_set.proofs.ListedLaw.{are_listed}
 use Rattle.page_set.proofs.LsnLaw.{lsns_tell}
 use Rattle.buffer_pool.specs.declared.changed.NewPage.{NewPage}
 use Rattle.buffer_pool.specs.declared.frame.Frame.{Frame}
-use Rattle.buffer_pool.specs.Frames.{frame_at, framed, has_page, page_over, IsShown, IsSpelled, IsWritten, Keeps, HasOnlyPages, SameDirty, Shows}
+use Rattle.buffer_pool.specs.Frames.{frame_at, framed, has_page, page_over, IsShown, IsSpelled, IsWritten, Keeps, SameDirty, Shows}
 use Rattle.buffer_pool.specs.Reading.{WhyNotFetched}
-use Rattle.buffer_pool.specs.Preparing.{any_touches, changed_at, changes, made, made_by_two, one_made, over_in, redone, redone_all, with_records, AllFit, AllFitOn, AreFramed, FitsOn, HaveFrames, IsPreparing, IsReady, Leads, LeadsTo, WhyNotMade, WhyNotMadeByTwo}
+use Rattle.buffer_pool.specs.Preparing.{any_touches, made, made_by_two, one_made, over_in, redone, redone_all, with_records, AllFit, AreFramed, FitsOn, HaveFrames, IsPreparing, IsReady, Leads, LeadsTo, WhyNotMade, WhyNotMadeByTwo}
 
 -- the pages of a list of blocks, one after the other
 
@@ -49,6 +48,24 @@ pub why_rest : (r : Record) (lsn d : ℕ) (first : List NewPage) (held : List (�
 why_rest r lsn d first held ds (BadPage b) h = (or_true (nat_eq d b) (is_among ds b) h.0, h.1)
 why_rest r lsn d first held ds NoMemory h = tt
 why_rest r lsn d first held ds DeviceFault h = h
+
+-- it is no fault of the device
+pub no_device : (r : Record) (lsn : ℕ) (first : List NewPage) (held : List (ℕ × Frame)) (ds : List ℕ) (e : PageFault) → WhyNotMade r lsn first held ds e → e ≡ DeviceFault → ⊥
+no_device r lsn first held ds DeviceFault why is = why
+no_device r lsn first held ds (BadPage b) why is = apart is
+  where
+    apart : BadPage b ≡ DeviceFault → ⊥
+    apart is = cc
+no_device r lsn first held ds NoMemory why is = apart is
+  where
+    apart : NoMemory ≡ DeviceFault → ⊥
+    apart is = cc
+
+pub no_device_by_two : (r s : Record) (lsn : ℕ) (held : List (ℕ × Frame)) (ds es : List ℕ) (e : PageFault) → WhyNotMadeByTwo r s lsn held ds es e → e ≡ DeviceFault → ⊥
+no_device_by_two r s lsn held ds es e why is = elim why [
+  | inl first ↦ no_device r lsn [] held ds e first is
+  | inr second ↦ no_device s (lsn + 1) (made r lsn [] held ds) held es e second is
+]
 
 -- each of them has a frame
 

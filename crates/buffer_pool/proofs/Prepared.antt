@@ -1,5 +1,5 @@
 -- What `prepare` answers, from what was brought into frames and what was made of it.
-use Rattle.std.proofs.Common.{◌≡◌, ℕ, ◌+◌, List, [], ◌++◌, Option, Some, None, Result, Ok, Err, IfOk, sym, subst, ap, ◌∙◌}
+use Rattle.std.proofs.Common.{◌≡◌, ℕ, ◌+◌, List, [], ◌++◌, Some, None, Result, Ok, Err, IfOk, sym, subst, ap, ◌∙◌}
 use Rattle.disk_model.specs.Types.{Meaning}
 use Rattle.seg_words.specs.Types.{Shape}
 use Rattle.redo_record.specs.declared.record.Record.{Record}

@@ -1,5 +1,5 @@
 -- The batch of dirty pages that are written next, and what it leaves.
-use Rattle.std.specs.Prelude.{◌≡◌, ℕ, ◌≤◌, Bool, true, ◌&&◌, List, filter, take, map, Option, Some, None, nat_eq, nat_le, cond, IfSome}
+use Rattle.std.specs.Prelude.{◌≡◌, ℕ, ◌≤◌, Bool, true, ◌&&◌, List, filter, take, map, nat_eq, nat_le, cond, IfSome}
 use Rattle.std.specs.List.{list_any}
 use Rattle.std.specs.List.Sorted.{IsPermutation, IsSorted}
 use Rattle.std.specs.Option.{option_map}

@@ -1,6 +1,6 @@
 -- The frames of a pool, and the page that each block shows over a data file. `held` lists the frames with their blocks, that
 -- of the transaction table first.
-use Rattle.std.specs.Prelude.{◌≡◌, ◌↔◌, ℕ, Bool, true, false, not, ◌&&◌, nat_eq, cond, List, Option, Some, None, IsSome, is_some}
+use Rattle.std.specs.Prelude.{◌≡◌, ◌↔◌, ℕ, Bool, true, false, not, ◌&&◌, nat_eq, cond, List, Option, Some, None, IsSome}
 use Rattle.std.specs.List.{sum_by}
 use Rattle.std.specs.Map.{lookup, values_of}
 use Rattle.seg_words.specs.Types.{Shape, CHECKPOINT_BLOCK}

@@ -1,8 +1,10 @@
 //! The pages of a store in frames, over its data file. A page that was changed stays in its frame until it is written.
 #![tactic(auto)]
 
+mod batching;
 mod cache;
 mod changed;
+mod changing;
 mod frame;
 mod making;
 mod pool;

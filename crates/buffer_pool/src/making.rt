@@ -1,10 +1,11 @@
 // What a record makes of the pages that it touches.
-ghost use Rattle.std.specs.Prelude.{◌≡◌, ◌++◌, ◌+◌, ◌-◌, ◌^◌, ◌<◌, [], IfOk, IfErr, OnOk};
+ghost use Rattle.std.specs.Prelude.{◌≡◌, ◌++◌, ◌+◌, ◌-◌, ◌^◌, ◌<◌, ◌≤◌, [], IfOk, IfErr, OnOk, length};
 ghost use Rattle.page_set.specs.Folded.{touched_once};
 ghost use Rattle.page_set.specs.declared.fault.Unfit.TheVariants as unfit;
 ghost use Rattle.buffer_pool.specs.Preparing.{over_in, one_made, made, made_by_two, AllFit, AreFramed, FitsOn, WhyNotMade, WhyNotMadeByTwo};
 
 use crate::changed::{Changed, NewPage};
+use crate::frame::MOST_TOUCHED;
 use crate::pool::BufferPool;
 use page_set::{Page, Unfit, changed, lsn_of, touches};
 use page_store::PageFault;
@@ -145,13 +146,19 @@ pub(crate) fn made_two(
     }
 }
 
-/// The blocks that a record touches, each once.
+/// The blocks that a record touches, each once. More than any record that can be written touches aren't listed.
 pub(crate) fn touched(alloc: Global, rec: &Record, shape: &Shape) -> Result<Vec<Dba>, PageFault>
     ensures list { IfOk result (λ blocks. blocks.items ≡ touched_once shape.now rec.now) }
+    ensures few { IfOk result (λ blocks. length blocks.items ≤ MOST_TOUCHED) }
     ensures only { IfErr result (λ e. e ≡ PageFault.NoMemory) }
 {
     match touches(alloc, rec, shape) {
-        Ok(blocks) => Ok(blocks),
+        Ok(blocks) => {
+            if blocks.len() > MOST_TOUCHED {
+                return Err(PageFault::NoMemory);
+            }
+            Ok(blocks)
+        }
         Err(NoMemory) => Err(PageFault::NoMemory),
     }
 }
@@ -181,7 +188,7 @@ fn listed(
     Ok(BlocksOfTwo { first, second, all })
 }
 
-/// The blocks that two records touch.
+/// The blocks that two records touch. More than any two that can be written touch aren't listed.
 pub(crate) fn touched_two(
     alloc: Global,
     first: &Record,
@@ -191,10 +198,16 @@ pub(crate) fn touched_two(
     ensures first { IfOk result (λ blocks. blocks.first.items ≡ touched_once shape.now first.now) }
     ensures second { IfOk result (λ blocks. blocks.second.items ≡ touched_once shape.now second.now) }
     ensures all { IfOk result (λ blocks. blocks.all.items ≡ blocks.first.items ++ blocks.second.items) }
+    ensures few { IfOk result (λ blocks. length blocks.all.items ≤ MOST_TOUCHED) }
     ensures only { IfErr result (λ e. e ≡ PageFault.NoMemory) }
 {
     match listed(alloc, first, second, shape) {
-        Ok(blocks) => Ok(blocks),
+        Ok(blocks) => {
+            if blocks.all.len() > MOST_TOUCHED {
+                return Err(PageFault::NoMemory);
+            }
+            Ok(blocks)
+        }
         Err(NoMemory) => Err(PageFault::NoMemory),
     }
 }

@@ -1,11 +1,10 @@
-use Rattle.std.proofs.Common.{◌≡◌, arith, sym, ◌∙◌}
-use Rattle.std.proofs.lemmas.Grind.{common_steps}
+use Rattle.std.proofs.Common.{◌≡◌, sym, ◌∙◌}
 use Rattle.page_store.specs.Types.{block}
 use Rattle.page_set.specs.declared.page.Page.{Page}
 use Rattle.page_set.specs.Spelled.{meaning_of}
 use Rattle.buffer_pool.specs.Frames.{frame_at, in_file, IsSpelled}
 use Rattle.buffer_pool.specs.Reading.{IsSpelledIn}
-use Rattle.buffer_pool.proofs.Drops.{keeps_then, keeps_same, dirty_then, dirty_same, frames_then, frames_same}
+use Rattle.buffer_pool.proofs.Drops.{keeps_then, keeps_same, dirty_then, dirty_same, frames_same}
 use Rattle.buffer_pool.proofs.Fetches.{is_none, fetched_hit, fetched_read, fetched_err, fetched_memory, written, only_added, only_same}
 use Rattle.buffer_pool.proofs.cache.bring.Goals as goal
 

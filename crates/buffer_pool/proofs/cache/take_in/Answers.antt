@@ -1,5 +1,4 @@
 use Rattle.std.proofs.Common.{arith}
-use Rattle.std.proofs.lemmas.Grind.{common_steps}
 use Rattle.buffer_pool.proofs.Drops.{keeps_then, keeps_added, dirty_then, dirty_added, frames_added}
 use Rattle.buffer_pool.proofs.cache.take_in.Goals as goal
 

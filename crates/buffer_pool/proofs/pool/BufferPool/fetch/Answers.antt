@@ -1,7 +1,7 @@
-use Rattle.std.proofs.Common.{arith, ℕ, IsSome, is_some, refl, sym, subst, ap, ◌∙◌}
+use Rattle.std.proofs.Common.{arith, ℕ, refl, sym, subst, ◌∙◌}
 use Rattle.std.proofs.lemmas.Grind.{common_steps}
 use Rattle.seg_words.specs.Types.{TXN_TABLE_BLOCK}
-use Rattle.buffer_pool.specs.Frames.{frame_at, has_page, IsSpelled}
+use Rattle.buffer_pool.specs.Frames.{frame_at, IsSpelled}
 use Rattle.buffer_pool.specs.Reading.{IsFetching, IsSpelledIn}
 use Rattle.buffer_pool.proofs.Drops.{keeps_behind, dirty_behind, frames_behind, frames_itself}
 use Rattle.buffer_pool.proofs.Fetches.{fetched_hit, fetched_behind, front_some, still_apart, still_pages}

@@ -1,4 +1,4 @@
-use Rattle.std.proofs.Common.{arith, ◌∙◌, sym, ap}
+use Rattle.std.proofs.Common.{arith, ◌∙◌}
 use Rattle.std.proofs.lemmas.Grind.{common_steps}
 use Rattle.seg_words.specs.Types.{TXN_TABLE_BLOCK}
 use Rattle.buffer_pool.proofs.Drops.{keeps_behind, dirty_behind}

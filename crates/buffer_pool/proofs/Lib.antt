@@ -6,6 +6,7 @@ pub mod Decoded
 pub mod Fetches
 pub mod Gathered
 pub mod Installs
+pub mod Recency
 pub mod Made
 pub mod Prepared
 pub mod Commits

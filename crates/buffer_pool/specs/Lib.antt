@@ -1,4 +1,5 @@
 pub mod Frames
+pub mod Recent
 pub mod Reading
 pub mod Preparing
 pub mod Batches

@@ -1,11 +1,13 @@
 // The calls of a cache that the pool is made of, at any capacity.
 ghost use Rattle.std.specs.Prelude.{◌≡◌, ◌⊎◌, ◌+◌, ◌<◌, ◌≤◌, ◌++◌, [], ◌∷◌, ℕ, List, None, true, false, IfSome, IfNone, IsSome, IsOk, IsErrOf, is_some, OnOk, OnErr, length, nat_eq, if◌then◌else◌};
-ghost use Rattle.std.specs.Map.{set_value};
+ghost use Rattle.std.specs.Map.{remove_entry, set_value};
+ghost use Rattle.lru.specs.LruCache.{promoted};
 ghost use Rattle.disk_model.specs.Types.{Causes, Untouched};
 ghost use Rattle.page_store.specs.Types.{IsStore};
 ghost use Rattle.buffer_pool.specs.Frames.{frame_at, dirty_count, dirty_frame, clean_frame, has_page as is_page, IsClean, IsDirty, IsSpelled, IsWritten, Keeps, KeepsFrames, SameDirty};
 ghost use Rattle.buffer_pool.specs.Reading.{IsFetching, IsSpelledIn};
 ghost use Rattle.buffer_pool.specs.Batches.{due_blocks, Settled};
+ghost use Rattle.buffer_pool.specs.Recent.{without_oldest, Brought, Gives};
 
 use crate::frame::Frame;
 use crate::reading::read_page;
@@ -19,6 +21,7 @@ use std::alloc::Global;
 /// The block of the least recently used clean frame.
 fn oldest_clean(frames: &LruCache<u32, Frame>) -> Option<u32>
     ensures clean { IfSome result (λ d. IsClean (frame_at frames.now.entries d)) }
+    ensures oldest { IfSome result (λ d. remove_entry (nat_eq d) frames.now.entries ≡ without_oldest frames.now.entries) }
     ensures none { IfNone result (dirty_count frames.now.entries ≡ length frames.now.entries) }
 {
     let _count = frames.len();
@@ -33,6 +36,7 @@ fn oldest_clean(frames: &LruCache<u32, Frame>) -> Option<u32>
 /// Drops the least recently used clean frame.
 fn drop_clean(frames: &mut LruCache<u32, Frame>)
     requires { dirty_count frames.old.entries < length frames.old.entries }
+    ensures oldest { frames.new.entries ≡ without_oldest frames.old.entries }
     ensures length { length frames.new.entries + 1 ≡ length frames.old.entries }
     ensures dirty { dirty_count frames.new.entries ≡ dirty_count frames.old.entries }
     ensures cap { frames.new.cap ≡ frames.old.cap }
@@ -47,9 +51,11 @@ fn drop_clean(frames: &mut LruCache<u32, Frame>)
 }
 
 /// Drops clean frames, the least recently used first, until so many more fit. Of fewer frames none is dropped.
+#[tactic(auto, using(crate::proofs::Recency::gives_none))]
 pub(crate) fn make_room(frames: &mut LruCache<u32, Frame>, more: usize)
     requires { dirty_count frames.old.entries + more ≤ frames.old.cap }
     ensures room { length frames.new.entries + more ≤ frames.new.cap }
+    ensures gives { Gives more frames.old.cap frames.old.entries frames.new.entries }
     ensures cap { frames.new.cap ≡ frames.old.cap }
     ensures keeps { (pages : ℕ → List ℕ) → Keeps pages frames.old.entries frames.new.entries }
     ensures same_dirty { SameDirty frames.old.entries frames.new.entries }
@@ -95,6 +101,7 @@ pub(crate) fn change(frames: &mut LruCache<u32, Frame>, block: u32, page: Page) 
 /// Makes a block's frame the most recently used, and says whether it has one.
 fn promote(frames: &mut LruCache<u32, Frame>, block: u32) -> bool
     ensures value { result ≡ is_some (frame_at frames.old.entries block) }
+    ensures moved { frames.new.entries ≡ promoted (nat_eq block) frames.old.entries }
     ensures same { (d : ℕ) → frame_at frames.new.entries d ≡ frame_at frames.old.entries d }
     ensures dirty { dirty_count frames.new.entries ≡ dirty_count frames.old.entries }
     ensures length { length frames.new.entries ≡ length frames.old.entries }
@@ -108,6 +115,8 @@ fn promote(frames: &mut LruCache<u32, Frame>, block: u32) -> bool
 fn take_in(frames: &mut LruCache<u32, Frame>, block: u32, page: Page) -> Result<(), NoMemory>
     requires absent { frame_at frames.old.entries block ≡ None }
     requires dirty { dirty_count frames.old.entries < frames.old.cap }
+    ensures brought { OnOk result (Brought frames.old.cap block frames.old.entries frames.new.entries) }
+    ensures gives { OnErr result (Gives 1 frames.old.cap frames.old.entries frames.new.entries) }
     ensures keeps { (pages : ℕ → List ℕ) → IsWritten block (pages block) page → Keeps pages frames.old.entries frames.new.entries }
     ensures same_dirty { SameDirty frames.old.entries frames.new.entries }
     ensures absent { (d : ℕ) → nat_eq d block ≡ false → frame_at frames.old.entries d ≡ None → frame_at frames.new.entries d ≡ None }
@@ -137,6 +146,9 @@ pub(crate) fn bring<D: Disk>(
     ensures page { (pages : ℕ → List ℕ) → IsStore D.meaning disk.old store.old pages → IsFetching store.old block (IsSpelled block (pages block)) (frame_at frames.old.entries block) result }
     ensures found { D.meaning.told disk.old → IsFetching store.old block (IsSpelledIn block (D.meaning.files disk.old).data_bytes) (frame_at frames.old.entries block) result }
     ensures hit { IsSome (frame_at frames.old.entries block) → disk.new ≡ disk.old }
+    ensures moved { IsSome (frame_at frames.old.entries block) → frames.new.entries ≡ promoted (nat_eq block) frames.old.entries }
+    ensures brought { frame_at frames.old.entries block ≡ None → OnOk result (Brought frames.old.cap block frames.old.entries frames.new.entries) }
+    ensures gives { OnErr result (Gives 1 frames.old.cap frames.old.entries frames.new.entries) }
     ensures keeps { (pages : ℕ → List ℕ) → IsStore D.meaning disk.old store.old pages → Keeps pages frames.old.entries frames.new.entries }
     ensures same_dirty { SameDirty frames.old.entries frames.new.entries }
     ensures only { (d : ℕ) → IsSome (frame_at frames.new.entries d) → IsSome (frame_at frames.old.entries d) ⊎ ((d ≡ block) × (is_page store.old block ≡ true)) }

@@ -1,11 +1,12 @@
 // A pool, and how pages come into its frames.
-ghost use Rattle.std.specs.Prelude.{◌≡◌, ◌+◌, ◌≤◌, ◌∷◌, [], ℕ, List, None, true, IfOk, IsSome, IsErrOf, OnOk, length};
+ghost use Rattle.std.specs.Prelude.{◌≡◌, ◌+◌, ◌≤◌, ◌∷◌, [], ℕ, List, None, true, IfOk, IsSome, IsErrOf, OnErr, OnOk, length};
 ghost use Rattle.seg_words.specs.Types.{TXN_TABLE_BLOCK};
 ghost use Rattle.disk_model.specs.Types.{Causes, Untouched};
 ghost use Rattle.page_store.specs.Types.{IsStore};
 ghost use Rattle.page_set.specs.declared.page.Page.{Page};
 ghost use Rattle.buffer_pool.specs.Frames.{dirty_count, frame_at, has_page as is_page, in_file, page_over, IsSpelled, Keeps, KeepsFrames, SameDirty, Shows};
 ghost use Rattle.buffer_pool.specs.Looks.{Looks};
+ghost use Rattle.buffer_pool.specs.Recent.{behind, Gives, Moves};
 ghost use Rattle.buffer_pool.specs.Reading.{IsFetching, IsReading, IsSpelledIn};
 
 use crate::cache::{bring, make_room};
@@ -110,6 +111,14 @@ impl BufferPool {
         }
     }
 
+    /// The page of the transaction table, which always has a frame.
+    pub fn table(&self) -> &Page
+        ensures page { (base : Page) → result.now ≡ page_over (frame_at self.now.held TXN_TABLE_BLOCK) base }
+        ensures has { IsSome (frame_at self.now.held TXN_TABLE_BLOCK) }
+    {
+        &self.first.page
+    }
+
     /// Brings the page of a block into a frame, as the most recently used; `frame` then lends it. A block that has a frame
     /// costs nothing, another one read. Where all frames are taken, the least recently used clean one is dropped: dirty ones
     /// stay, and what each block shows stays, also after an `Err`. `BadPage` comes exactly where the block has no page, or
@@ -122,6 +131,8 @@ impl BufferPool {
         ensures hit { IsSome (frame_at self.old.held dba) → disk.new ≡ disk.old }
         ensures has { OnOk result (IsSome (frame_at self.new.held dba)) }
         ensures there { OnOk result (is_page self.old.shape dba ≡ true) }
+        ensures moves { OnOk result (Moves dba self.old.held self.new.held) }
+        ensures gives { OnErr result (Gives 1 FRAMES (behind self.old.held) (behind self.new.held)) }
         // While there is room no frame is dropped.
         ensures stays { length self.old.held ≤ FRAMES → KeepsFrames self.old.held self.new.held }
         ensures length { length self.old.held ≤ FRAMES → length self.new.held ≤ length self.old.held + 1 }

@@ -4,6 +4,7 @@ use Rattle.page_set.specs.declared.page.Page.{Page}
 use Rattle.page_set.specs.Spelled.{meaning_of}
 use Rattle.buffer_pool.specs.Frames.{frame_at, in_file, IsSpelled}
 use Rattle.buffer_pool.specs.Reading.{IsSpelledIn}
+use Rattle.buffer_pool.proofs.Recency.{brought_from, gives_from, gives_none, no_both, promoted_none}
 use Rattle.buffer_pool.proofs.Drops.{keeps_then, keeps_same, dirty_then, dirty_same, frames_same}
 use Rattle.buffer_pool.proofs.Fetches.{is_none, fetched_hit, fetched_read, fetched_err, fetched_memory, written, only_added, only_same}
 use Rattle.buffer_pool.proofs.cache.bring.Goals as goal
@@ -89,3 +90,29 @@ returns-in-Err-take_in-clause-same_dirty g c =
 pub returns-in-Err-take_in-clause-only : goal.returns-in-Err-take_in-clause-only
 returns-in-Err-take_in-clause-only g c =
     only_added c.args.store.now c.args.block c.args.frames.now.entries c.take_in.new.frames.entries (λ d other none. c.take_in.ensures.absent d other (c.promote.ensures.same d ∙ none)) c.in-Ok.ensures.has
+
+pub returns-then-promote-clause-brought : goal.returns-then-promote-clause-brought
+returns-then-promote-clause-brought g c = λ none. absurd (no_both (frame_at c.args.frames.now.entries c.args.block) (sym c.promote.ensures.value ∙ c.if-promote.true) none)
+
+pub returns-in-Err-clause-gives : goal.returns-in-Err-clause-gives
+returns-in-Err-clause-gives g c =
+    let a = c.args.frames.now.entries in
+    let none = is_none (frame_at a c.args.block) (sym c.promote.ensures.value ∙ c.if-promote.false) in
+    rw (c.promote.ensures.moved ∙ promoted_none c.args.block a none) (gives_none 1 c.args.frames.now.cap a)
+
+pub returns-in-Ok-take_in-clause-moved : goal.returns-in-Ok-take_in-clause-moved
+returns-in-Ok-take_in-clause-moved g c = λ has. absurd (no_both (frame_at c.args.frames.now.entries c.args.block) has (is_none (frame_at c.args.frames.now.entries c.args.block) (sym c.promote.ensures.value ∙ c.if-promote.false)))
+
+pub returns-in-Err-take_in-clause-moved : goal.returns-in-Err-take_in-clause-moved
+returns-in-Err-take_in-clause-moved g c = λ has. absurd (no_both (frame_at c.args.frames.now.entries c.args.block) has (is_none (frame_at c.args.frames.now.entries c.args.block) (sym c.promote.ensures.value ∙ c.if-promote.false)))
+
+pub returns-in-Ok-take_in-clause-brought : goal.returns-in-Ok-take_in-clause-brought
+returns-in-Ok-take_in-clause-brought g c = λ none.
+    let a = c.args.frames.now.entries in
+    brought_from c.args.frames.now.cap c.promote.new.frames.cap c.args.block a c.promote.new.frames.entries c.take_in.new.frames.entries c.promote.ensures.cap (c.promote.ensures.moved ∙ promoted_none c.args.block a none) c.in-Ok-take_in.ensures.brought
+
+pub returns-in-Err-take_in-clause-gives : goal.returns-in-Err-take_in-clause-gives
+returns-in-Err-take_in-clause-gives g c =
+    let a = c.args.frames.now.entries in
+    let none = is_none (frame_at a c.args.block) (sym c.promote.ensures.value ∙ c.if-promote.false) in
+    gives_from c.args.frames.now.cap c.promote.new.frames.cap a c.promote.new.frames.entries c.take_in.new.frames.entries c.promote.ensures.cap (c.promote.ensures.moved ∙ promoted_none c.args.block a none) c.in-Err-take_in.ensures.gives

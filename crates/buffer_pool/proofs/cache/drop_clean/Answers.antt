@@ -16,3 +16,6 @@ returns-in-Some-clause-absent c = λ k h. rw c.pop.ensures.entries (absent_dropp
 
 pub returns-in-Some-clause-dirty : goal.returns-in-Some-clause-dirty
 returns-in-Some-clause-dirty c = rw c.pop.ensures.entries (count_dropped c.in-Some.block c.args.frames.now.entries c.in-Some.ensures.clean)
+
+pub returns-in-Some-clause-oldest : goal.returns-in-Some-clause-oldest
+returns-in-Some-clause-oldest c = rw c.pop.ensures.entries c.in-Some.ensures.oldest

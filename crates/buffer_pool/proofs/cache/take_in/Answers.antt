@@ -36,3 +36,9 @@ pub returns-in-Err-clause-stays : goal.returns-in-Err-clause-stays
 returns-in-Err-clause-stays c = λ room.
     let same = c.make_room.ensures.same (omega (arith, room)) in
     rw (c.in-Err.ensures.err, same) (record { at = λ d h. h })
+
+pub returns-in-Ok-clause-brought : goal.returns-in-Ok-clause-brought
+returns-in-Ok-clause-brought c = record { kept = c.make_room.new.frames.entries; page = c.args.page; gives = c.make_room.ensures.gives; front = c.in-Ok.ensures.entries }
+
+pub returns-in-Err-clause-gives : goal.returns-in-Err-clause-gives
+returns-in-Err-clause-gives c = rw c.in-Err.ensures.err c.make_room.ensures.gives

@@ -1,8 +1,11 @@
-use Rattle.std.proofs.Common.{arith, ℕ, refl, sym, subst, ◌∙◌}
+use Rattle.std.proofs.Common.{◌≡◌, arith, ℕ, nat_eq, None, IsSome, OnOk, OnErr, refl, sym, subst, ◌∙◌}
+use Rattle.lru.specs.LruCache.{promoted}
+use Rattle.buffer_pool.specs.Recent.{Brought, Gives}
 use Rattle.std.proofs.lemmas.Grind.{common_steps}
 use Rattle.seg_words.specs.Types.{TXN_TABLE_BLOCK}
 use Rattle.buffer_pool.specs.Frames.{frame_at, IsSpelled}
 use Rattle.buffer_pool.specs.Reading.{IsFetching, IsSpelledIn}
+use Rattle.buffer_pool.proofs.Recency.{moves_fetched, moves_first}
 use Rattle.buffer_pool.proofs.Drops.{keeps_behind, dirty_behind, frames_behind, frames_itself}
 use Rattle.buffer_pool.proofs.Fetches.{fetched_hit, fetched_behind, front_some, still_apart, still_pages}
 use Rattle.buffer_pool.proofs.Installs.{unequal}
@@ -74,3 +77,22 @@ returns-then-block-eq-TXN_TABLE_BLOCK-clause-there g c =
 
 pub returns-then-block-eq-TXN_TABLE_BLOCK-clause-stays : goal.returns-then-block-eq-TXN_TABLE_BLOCK-clause-stays
 returns-then-block-eq-TXN_TABLE_BLOCK-clause-stays g c = λ room. frames_itself c.args.self.now.held
+
+pub returns-clause-moves : goal.returns-clause-moves
+returns-clause-moves g c =
+    let a = c.self.inside.frames.entries in let b = c.bring.new.frames.entries in let d = c.args.dba in
+    let other = unequal d TXN_TABLE_BLOCK (λ e. c.if-block-eq-TXN_TABLE_BLOCK.false (c.dba.view_is ∙ e)) in
+    rw (← c.self.view_is) (moves_fetched c.bring.result d c.self.inside.first a b other
+    (subst (λ (j : ℕ). IsSome (frame_at a j) → b ≡ promoted (nat_eq j) a) c.dba.view_is c.bring.ensures.moved)
+    (subst (λ (n : ℕ). frame_at a d ≡ None → OnOk c.bring.result (Brought n d a b)) c.self.invariant.1
+    (subst (λ (j : ℕ). frame_at a j ≡ None → OnOk c.bring.result (Brought c.self.inside.frames.cap j a b)) c.dba.view_is c.bring.ensures.brought)))
+
+pub returns-clause-gives : goal.returns-clause-gives
+returns-clause-gives g c =
+    let a = c.self.inside.frames.entries in let b = c.bring.new.frames.entries in
+    rw (← c.self.view_is) (subst (λ (n : ℕ). OnErr c.bring.result (Gives 1 n a b)) c.self.invariant.1 c.bring.ensures.gives)
+
+pub returns-then-block-eq-TXN_TABLE_BLOCK-clause-moves : goal.returns-then-block-eq-TXN_TABLE_BLOCK-clause-moves
+returns-then-block-eq-TXN_TABLE_BLOCK-clause-moves g c =
+    let d = c.args.dba in let is = sym c.dba.view_is ∙ c.if-block-eq-TXN_TABLE_BLOCK.true in
+    moves_first d c.args.self.now.held is (rw (← c.self.view_is) (front_some d TXN_TABLE_BLOCK c.self.inside.first c.self.inside.frames.entries is))

@@ -1,22 +1,19 @@
 -- Who changes a row, by the transaction table and by the list.
-use Rattle.std.proofs.Common.{◌≡◌, ◌⊎◌, ℕ, suc, ◌<◌, ◌≤◌, ◌-◌, ◌^◌, Bool, true, false, cond, List, ◌∷◌, length, position, Option, Some, None, refl, sym, ◌∙◌, ap, ap₂, subst, arith, inl, inr, true≢false}
-use Rattle.seg_words.specs.Types.{Shape, UndoAddr, is_shape}
-use Rattle.redo_model.specs.Records.{Record, Begin, BeginRecord}
-use Rattle.redo_model.specs.Model.{txn_count, is_active, user_of, commit_number, entry_of, last_undo, place_of_undo, number_or_zero, EntryState, state_of_user, state_when_over, TakesEntry, IsTable, AreAllowed, IsLawful}
+use Rattle.std.proofs.Common.{◌≡◌, ℕ, suc, ◌<◌, ◌^◌, true, false, cond, List, length, Option, Some, None, refl, sym, ◌∙◌, ap, arith, inl, inr, true≢false}
+use Rattle.seg_words.specs.Types.{Shape, UndoAddr}
+use Rattle.redo_model.specs.Records.{Record}
+use Rattle.redo_model.specs.Model.{is_active, user_of, commit_number, entry_of, place_of_undo, number_or_zero, state_of_user, state_when_over, TakesEntry, IsTable, AreAllowed, IsLawful}
 use Rattle.redo_model.specs.AllowedTransactions.{Unused, InUse, Committed, RolledBack, takes_unused, takes_rolled_back, takes_committed}
-use Rattle.txn_block.specs.declared.entry.TableEntry.{TableEntry}
-use Rattle.txn_block.specs.declared.entry.TableEntry.TheVariants.{Used}
 use Rattle.txn_block.specs.declared.entry.Outcome.TheVariants.{Active}
 use Rattle.txn_block.specs.Entries as table
-use Rattle.txn_block.specs.Types.{TxnTable, TakesNext, entry_at, names, last_undo_in}
-use Rattle.version_laws.specs.Types.{HoldsTable, entry_used_by, outcome_when_over, begin_of}
+use Rattle.txn_block.specs.Types.{TxnTable, TakesNext}
+use Rattle.version_laws.specs.Types.{HoldsTable, entry_used_by, outcome_when_over}
 use Rattle.version_laws.proofs.TableLaw.{undo_is, entry_is}
 use Rattle.open_laws.proofs.BeginsLaw.{few_are_active}
-use Rattle.end_laws.specs.Types.{MayBegin}
 use Rattle.end_laws.proofs.Begins.{takes_next}
 use Rattle.change_laws.proofs.ReadyLaw.{entered}
 use Rattle.row_change.specs.declared.actor.Actor.{Actor}
-use Rattle.row_change.specs.Acting.{MayAct, txn_of, old_actor, new_actor, ActsAnew, Acts, actor_at, open_actor, BeginsBy, IsFull}
+use Rattle.row_change.specs.Acting.{MayAct, txn_of, old_actor, ActsAnew, Acts, actor_at, open_actor, BeginsBy, IsFull}
 use Rattle.row_change.proofs.Numbered.{Fewer, fewer}
 
 same_actor : (x y : Actor) → ◌≡◌ {A = Option Actor} (Some x) (Some y) → x ≡ y

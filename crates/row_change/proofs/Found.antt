@@ -1,15 +1,15 @@
 -- Where undo goes, by how the current undo block is used.
-use Rattle.std.proofs.Common.{◌≡◌, ℕ, suc, ◌+◌, Bool, true, false, cond, not, ltb, find, List, [], Option, Some, None, refl, sym, ◌∙◌, ap, ap₂, subst}
+use Rattle.std.proofs.Common.{◌≡◌, ℕ, suc, ◌+◌, true, false, not, ltb, find, List, [], Option, Some, None, sym, ◌∙◌, ap}
 use Rattle.std.specs.Prelude.{Result, Ok, Err, IfOk}
 use Rattle.seg_words.proofs.Lemmas.{cond-true, cond-false}
-use Rattle.seg_words.specs.Types.{Shape, UndoAddr}
+use Rattle.seg_words.specs.Types.{Shape}
 use Rattle.store_core.specs.declared.fault.StoreFault.{StoreFault}
 use Rattle.redo_model.specs.Records.{Record, ReuseRecord}
 use Rattle.redo_model.specs.Model.{current_undo, has_holder, next_undo, ring_after, undo_sequence, undo_used}
 use Rattle.change_laws.specs.Types.{Spot, Here, Next, reuse_of, spot_by, spot_for, spot_past, undo_end}
 use Rattle.row_change.specs.declared.ring.UndoState.{UndoState}
 use Rattle.row_change.specs.declared.spot.Spot.{Spot as Told}
-use Rattle.row_change.specs.Spots.{UsedAs, state_of, spot_behind, told_spot}
+use Rattle.row_change.specs.Spots.{UsedAs, spot_behind, told_spot}
 
 -- the spot that is answered is the same one
 pub spot_ok : (r : Result Told StoreFault) (x y : Spot) → x ≡ y → IfOk r (λ s. told_spot s ≡ x) → IfOk r (λ s. told_spot s ≡ y)

@@ -1,17 +1,16 @@
 -- What the pages of a true store answer to the questions of a change.
-use Rattle.std.proofs.Common.{◌≡◌, ℕ, zero, suc, ◌+◌, ◌<◌, ◌≤◌, Bool, true, false, cond, not, eqb, ltb, nat_lt, ◌&&◌, ◌||◌, List, [], ◌∷◌, length, get_or, Option, Some, None, refl, sym, ◌∙◌, ap, ap₂, subst, arith, lt-ltb, le-ltb, ne_eqb}
+use Rattle.std.proofs.Common.{◌≡◌, ℕ, zero, suc, ◌+◌, ◌<◌, ◌≤◌, Bool, true, false, cond, not, ltb, nat_lt, ◌||◌, List, [], length, get_or, Option, Some, None, refl, sym, ◌∙◌, ap, ap₂, arith, lt-ltb, le-ltb, ne_eqb}
 use Rattle.std.specs.Prelude.{sum_by}
 use Rattle.seg_words.proofs.Lemmas.{and_from, cond-false}
-use Rattle.seg_words.specs.Types.{Shape, Slot, Block, new_slot, entry_for, next_room, slot_to_use, is_shape}
+use Rattle.seg_words.specs.Types.{Shape, Slot, Block, new_slot, entry_for, next_room, is_shape}
 use Rattle.redo_model.specs.Records.{Record}
-use Rattle.redo_model.specs.Model.{txn_count, ended_in, image, block_of, next_slot, at_place, undo_parts, undo_used, undo_holder, undo_sequence, number_or_zero, data_blocks, high_mark, under_high, IsRowBlock, IsLawful, least_active, Undone}
+use Rattle.redo_model.specs.Model.{ended_in, image, block_of, at_place, undo_parts, undo_used, undo_sequence, number_or_zero, data_blocks, high_mark, under_high, IsRowBlock, IsLawful, least_active, Undone}
 use Rattle.redo_model.proofs.Bridge.{image_is}
 use Rattle.redo_laws.proofs.numbers.Bounds.{limits, data_bound}
 use Rattle.redo_laws.proofs.space.Places.{in_contains, in_take}
 use Rattle.redo_laws.proofs.room.RoomLaw.{blocks_have_room}
 use Rattle.txn_block.specs.Types.{TxnTable}
 use Rattle.undo_block.specs.Types.{used_by, holder_of}
-use Rattle.undo_block.specs.declared.part.Part.{Part}
 use Rattle.version_laws.specs.Types.{HoldsTable, IsInRing, ended_by, begin_of}
 use Rattle.version_laws.proofs.TableLaw.{tables_tell}
 use Rattle.change_laws.specs.Types.{entry_by, fill}
@@ -27,7 +26,7 @@ use Rattle.row_change.specs.declared.ring.UndoState.{UndoState}
 use Rattle.row_change.specs.Acting.{txn_of}
 use Rattle.row_change.specs.declared.draft.Content.{Content as Filling}
 use Rattle.row_change.specs.Drafting.{FillIs, place_or, replaced_of, told_content}
-use Rattle.row_change.specs.Reading.{slot_or, replaced_by, replaced_at, replaced_in, state_in}
+use Rattle.row_change.specs.Reading.{slot_or, replaced_at, replaced_in, state_in}
 use Rattle.row_change.specs.Spots.{state_of}
 use Rattle.row_change.proofs.Unused.{no_parts, ring_zero}
 
@@ -51,7 +50,7 @@ rows_there sh R o b s h x =
 
 -- ---- row blocks
 
-entry_of_txn : (sh : Shape) (R : List Record) (own : Option ℕ) (b : ℕ) → IsLawful sh R → entry_for (ended_in R) (block_of R b) (txn_of R own) ≡ entry_by R own b
+pub entry_of_txn : (sh : Shape) (R : List Record) (own : Option ℕ) (b : ℕ) → IsLawful sh R → entry_for (ended_in R) (block_of R b) (txn_of R own) ≡ entry_by R own b
 entry_of_txn sh R (Some t) b h = refl
 entry_of_txn sh R None b h = ((begins_leave sh R (begin_of R 1 0 0) h.allowed refl).blocks b).entry_before
 

@@ -1,12 +1,12 @@
 -- The pages that a search reads: that they are there, and what they say.
-use Rattle.std.proofs.Common.{◌≡◌, ℕ, zero, suc, ◌+◌, ◌<◌, ◌≤◌, true, List, [], ◌∷◌, length, slice_get, Option, Some, None, refl, sym, ◌∙◌, ap, subst, arith, leb-true}
+use Rattle.std.proofs.Common.{◌≡◌, ℕ, zero, suc, ◌+◌, ◌<◌, true, List, [], ◌∷◌, length, slice_get, Option, Some, None, refl, sym, ◌∙◌, ap, subst, arith}
 use Rattle.seg_words.specs.Types.{Shape, first_block, is_shape}
 use Rattle.redo_model.specs.Records.{Record}
 use Rattle.redo_model.specs.Model.{Extent, extents_of, extent_at, data_blocks, IsTable, IsLawful, AreAllowed}
 use Rattle.redo_laws.proofs.numbers.Bounds.{limits}
 use Rattle.redo_laws.proofs.space.ApartLaw.{extents_are_apart}
 use Rattle.redo_laws.proofs.space.Places.{contains_in}
-use Rattle.space_laws.proofs.ExtentsLaw.{found_has, each_block_has_one_role}
+use Rattle.space_laws.proofs.ExtentsLaw.{each_block_has_one_role}
 use Rattle.mark_laws.proofs.ThereLaw.{tables_have_extents}
 use Rattle.data_places.specs.Places.{block_or_none}
 use Rattle.page_set.specs.declared.page.Page.{Page}

@@ -13,3 +13,8 @@ pub mod Having
 pub mod Positions
 pub mod Searching
 pub mod Sights
+pub mod Addresses
+pub mod Belonging
+pub mod Looked
+pub mod Listed
+pub mod Decided

@@ -1,13 +1,13 @@
 -- The records of a change added, and what its call answers.
-use Rattle.std.proofs.Common.{◌≡◌, ◌⊎◌, ℕ, ◌≤◌, List, ◌∷◌, Option, Some, None, refl, sym, ◌∙◌, ap, subst, inl, inr, arith, le_trans}
-use Rattle.std.specs.Prelude.{Result, Ok, Err, OnOk, OnErr, IfErr}
+use Rattle.std.proofs.Common.{◌≡◌, ◌⊎◌, ℕ, ◌≤◌, List, Option, None, sym, ap, subst, inl, inr, arith, le_trans}
+use Rattle.std.specs.Prelude.{Result, Ok, Err}
 use Rattle.seg_words.specs.Types.{Shape}
 use Rattle.disk_model.specs.Crash.{Meaning}
 use Rattle.redo_model.specs.Records.{Record}
 use Rattle.redo_model.specs.Model.{IsLawful}
 use Rattle.store_core.specs.Store.{Held, IsTrue}
 use Rattle.store_core.specs.Survives.{Survives}
-use Rattle.store_core.specs.Causes.{HasCause, HasLooked, IsSoundFault}
+use Rattle.store_core.specs.Causes.{HasLooked, IsSoundFault}
 use Rattle.store_core.specs.declared.fault.StoreFault.{StoreFault}
 use Rattle.store_core.specs.Adding.{Adds as Added}
 use Rattle.change_laws.specs.Types.{Change, change_size, Answer, by_spot, spot_for}
@@ -15,10 +15,9 @@ use Rattle.row_change.specs.declared.answer.Done.{Done}
 use Rattle.row_change.specs.declared.answer.ChangeFault.{ChangeFault}
 use Rattle.row_change.specs.declared.answer.ChangeFault.TheVariants.{Busy, Changed, NoSlot, NeedsBlock, UndoFull, Store}
 use Rattle.row_change.specs.declared.draft.Additions.{Additions}
-use Rattle.row_change.specs.declared.plan.Planned.{Planned}
-use Rattle.row_change.specs.declared.plan.Planned.TheVariants.{Adds, Spent}
-use Rattle.row_change.specs.Adding.{begun, reused, added, AreLawful, Stands, AddsAll}
-use Rattle.row_change.specs.Answering.{IsMade, IsRefused, BegunStands, HasFailed, IsFaultOf, IsAnswer, Answers}
+use Rattle.row_change.specs.declared.plan.Planned.TheVariants.{Spent}
+use Rattle.row_change.specs.Adding.{begun, added, AreLawful, Stands, AddsAll}
+use Rattle.row_change.specs.Answering.{IsRefused, BegunStands, HasFailed, IsFaultOf, Answers}
 use Rattle.row_change.specs.Planning.{IsNext, PlanMade, PlanMeans}
 
 -- ---- adding
@@ -60,7 +59,7 @@ begin_kept meaning a b R next f t n l s = record { added = tt; refused = t; soun
 
 -- ---- answering
 
-stays : {D : Type 0} (meaning : Meaning D) (a : Held D) (R : List Record) → IsTrue meaning R a → Stands meaning R R a a
+pub stays : {D : Type 0} (meaning : Meaning D) (a : Held D) (R : List Record) → IsTrue meaning R a → Stands meaning R R a a
 stays meaning a R t = record { list = t; survives = λ since needed s. s }
 
 -- undo is full

@@ -1,5 +1,5 @@
 -- Where a table is there, fewer than all numbers are given.
-use Rattle.std.proofs.Common.{◌≡◌, ℕ, zero, suc, ◌+◌, ◌-◌, ◌<◌, ◌≤◌, ◌^◌, Bool, true, false, cond, eqb, List, [], ◌∷◌, length, refl, arith}
+use Rattle.std.proofs.Common.{ℕ, suc, ◌+◌, ◌-◌, ◌<◌, ◌≤◌, ◌^◌, Bool, true, false, cond, eqb, List, [], ◌∷◌, length, arith}
 use Rattle.redo_model.specs.Records.{Record, Table, Begin, Reuse, Insert}
 use Rattle.redo_model.specs.Model.{txn_count, row_count, table_count, undo_sequence, IsTable}
 

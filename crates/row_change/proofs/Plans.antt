@@ -1,10 +1,10 @@
 -- What follows from a planned change.
 use Rattle.std.proofs.Common.{◌≡◌, ℕ, suc, ◌+◌, List, [], ◌∷◌, length, Option, Some, None, refl, sym, ◌∙◌, ap, ap₂, subst}
-use Rattle.seg_words.specs.Types.{Shape, Slot, UndoAddr, By}
+use Rattle.seg_words.specs.Types.{Shape, UndoAddr, By}
 use Rattle.redo_model.specs.Records.{Record, Begin, Reuse, RowPart, RowBody, BeginRecord, ReuseRecord}
 use Rattle.redo_model.specs.Model.{Content, image_with, part_addr, IsLawful}
 use Rattle.version_laws.specs.Types.{begin_of}
-use Rattle.change_laws.specs.Types.{RowKind, as_record, Fill, Change, fills_size, change_size, part_of, parts_of, new_part, new_parts, new_body, body_at, record_of, Spot, Here, Next, Full, spot_for, undo_start, list_at, list_with, Makes, by_spot, MadeBy, MadeFor, MayInsert, insert_of, InsertMeans}
+use Rattle.change_laws.specs.Types.{RowKind, as_record, Fill, Change, fills_size, change_size, parts_of, new_parts, record_of, Spot, Here, Next, spot_for, undo_start, list_at, list_with, Makes, by_spot, MadeBy, MayInsert, insert_of, InsertMeans}
 use Rattle.change_laws.proofs.BegunLaw.{begins_leave, reuses_leave}
 use Rattle.change_laws.proofs.SpotLaw.{begins_are_lawful}
 use Rattle.change_laws.proofs.MadeLaw.{inserts_are_made}
@@ -17,9 +17,9 @@ use Rattle.row_change.specs.declared.draft.Additions.{Additions}
 use Rattle.row_change.specs.declared.spot.Spot.{Spot as ToldSpot}
 use Rattle.row_change.specs.declared.spot.Spot.TheVariants as told
 use Rattle.row_change.specs.Acting.{MayAct, txn_of, old_actor, new_actor, ActsAnew, Acts}
-use Rattle.row_change.specs.Adding.{begun, reused, added, AreLawful}
+use Rattle.row_change.specs.Adding.{begun, added}
 use Rattle.row_change.specs.Drafting.{fill_list, told_kind, told_content, drafted_size, drafted_part, drafted_parts, drafted_body, additions, replaced_of, FillIs, FillsAre, ChangeIs}
-use Rattle.row_change.specs.Planning.{planned, CanBeMade, IsBegun, BeginsNext, IsNext, PlanMade, PlanMeans}
+use Rattle.row_change.specs.Planning.{planned, CanBeMade, IsBegun, BeginsNext, PlanMade, PlanMeans}
 use Rattle.row_change.specs.Spots.{told_spot}
 
 -- ---- parts and sizes

@@ -1,11 +1,11 @@
 -- The ring of undo blocks, as it is searched behind the current one.
-use Rattle.std.proofs.Common.{◌≡◌, ℕ, zero, suc, ◌+◌, ◌-◌, ◌<◌, ◌≤◌, Bool, true, false, cond, not, ltb, List, [], ◌∷◌, ◌++◌, length, take, drop, get_or, find, Option, Some, None, refl, sym, ◌∙◌, ap, ap₂, subst, arith, inl, inr, length-append, ltb-true, ltb-false}
+use Rattle.std.proofs.Common.{◌≡◌, ℕ, zero, suc, ◌+◌, ◌-◌, ◌<◌, ◌≤◌, Bool, true, false, not, ltb, List, [], ◌∷◌, ◌++◌, length, take, drop, get_or, find, Option, Some, None, refl, sym, ◌∙◌, ap, arith, inl, inr, length-append, ltb-true, ltb-false}
 use Rattle.std.proofs.lemmas.List.{get_or_append_left, get_or-append_right, drop_more}
 use Rattle.seg_words.proofs.Lemmas.{cond-true, cond-false, cases_Bool}
 use Rattle.seg_words.specs.Types.{Shape}
 use Rattle.redo_model.specs.Records.{Record}
 use Rattle.redo_model.specs.Model.{blocks_from, current_undo, has_holder, next_undo, ring_after, undo_holder}
-use Rattle.change_laws.specs.Types.{Spot, Next, Full, holder_pair, holder_pairs, reuse_of, spot_past}
+use Rattle.change_laws.specs.Types.{Next, Full, holder_pair, holder_pairs, reuse_of, spot_past}
 use Rattle.row_change.specs.Spots.{nth_of_ring, spot_behind}
 
 blocks_length : (a k : ℕ) → length (blocks_from a k) ≡ k

@@ -15,15 +15,14 @@ use Rattle.store_core.specs.declared.fault.StoreFault.{StoreFault}
 use Rattle.store_core.proofs.Lookups.{looked_on, looked_ok, refused_after}
 use Rattle.store_core.proofs.UndoLent.{all_looked}
 use Rattle.place_laws.specs.Located.{NoneBefore}
-use Rattle.row_change.specs.declared.place.Place.{Place}
 use Rattle.row_change.specs.declared.sight.Search.{Search}
 use Rattle.row_change.specs.declared.sight.Sight.{Sight}
-use Rattle.row_change.specs.Locating.{IsSearch, SightOf, Sees, NoneBelow, FindsAt}
+use Rattle.row_change.specs.Locating.{IsSearch, SightOf, Sees, SeesFor, NoneBelow, FindsAt}
 use Rattle.row_change.proofs.Positions.{search_at, none_more, none_at}
 use Rattle.row_change.proofs.Sights.{reader_of, sees_row}
 
 -- a call on a store that shows of an image what it shows
-pub told_sees : {E : Type 0} (sh : Shape) (R : List Record) (o : ℕ) (q : Search) (p : Rowid) (i : Slot) (r : Result (Option Sight) E) → IsSearch sh R o q → SeesRow R p.dba p.slot q.start (txn_or_none q.own) i → IfOk r (SightOf i p q.row) → IfOk r (Sees R q.own q.row p)
+pub told_sees : {E : Type 0} (sh : Shape) (R : List Record) (o : ℕ) (q : Search) (p : Rowid) (i : Slot) (r : Result (Option Sight) E) → IsSearch sh R o q → SeesRow R p.dba p.slot q.start (txn_or_none q.own) i → IfOk r (SightOf i p) → IfOk r (Sees R q.own p)
 told_sees sh R o q p i (Ok x) h v w = sees_row sh R o q p i x h v w
 told_sees sh R o q p i (Err f) h v w = tt
 
@@ -40,31 +39,31 @@ working meaning s R o q n t h = record { list = t; shape_is = sym h.shape_is; un
 
 -- slots of a block
 
-pub record SlotsSought {D : Type 0} (meaning : Meaning D) (start now : Held D) (q : Search) (b slot : ℕ) : Type 0 where
+pub record SlotsSought {D : Type 0} (meaning : Meaning D) (start now : Held D) (q : Search) (row b slot : ℕ) : Type 0 where
   pub looked : HasLooked {T = Unit {0}} meaning start now (Ok tt)
-  pub none : (R : List Record) (o i : ℕ) → IsTrue meaning R start → IsSearch start.shape R o q → slice_get (data_blocks q.shape R o) i ≡ Some b → NoneBelow R q b slot
+  pub none : (R : List Record) (o i : ℕ) → IsTrue meaning R start → IsSearch start.shape R o q → slice_get (data_blocks q.shape R o) i ≡ Some b → NoneBelow R q row b slot
 
-pub slots_next : {D T : Type 0} (meaning : Meaning D) (start mid now : Held D) (q : Search) (b k : ℕ) (x : T) → SlotsSought meaning start mid q b k → HasLooked {T = T} meaning mid now (Ok x)
-    → ((R : List Record) (o i : ℕ) → IsTrue meaning R mid → IsSearch mid.shape R o q → slice_get (data_blocks q.shape R o) i ≡ Some b → Sees R q.own q.row (at_place b k) None) → SlotsSought meaning start now q b (k + 1)
-slots_next meaning start mid now q b k x s l says = record {
+pub slots_next : {D T : Type 0} (meaning : Meaning D) (start mid now : Held D) (q : Search) (row b k : ℕ) (x : T) → SlotsSought meaning start mid q row b k → HasLooked {T = T} meaning mid now (Ok x)
+    → ((R : List Record) (o i : ℕ) → IsTrue meaning R mid → IsSearch mid.shape R o q → slice_get (data_blocks q.shape R o) i ≡ Some b → SeesFor R q.own row (at_place b k) None) → SlotsSought meaning start now q row b (k + 1)
+slots_next meaning start mid now q row b k x s l says = record {
   looked = looked_on meaning start mid now tt (Ok tt) s.looked (looked_ok meaning mid now x tt l);
-  none = λ R o i t h at. none_more R q b k (s.none R o i t h at) (says R o i (s.looked.stays_true R t) (search_on meaning start mid (Ok tt) R o q s.looked h) at);
+  none = λ R o i t h at. none_more R q row b k (s.none R o i t h at) (says R o i (s.looked.stays_true R t) (search_on meaning start mid (Ok tt) R o q s.looked h) at);
 }
 
 -- data blocks of a table
 
-pub record PlacesSought {D : Type 0} (meaning : Meaning D) (start now : Held D) (q : Search) (next : Option DataPlace) (position : ℕ) : Type 0 where
+pub record PlacesSought {D : Type 0} (meaning : Meaning D) (start now : Held D) (q : Search) (row : ℕ) (next : Option DataPlace) (position : ℕ) : Type 0 where
   pub looked : HasLooked {T = Unit {0}} meaning start now (Ok tt)
   pub place : MatchOption next (data_count q.shape q.segment.extents ≤ position) (λ p. IsPlace q.shape q.segment.extents p position)
-  pub none : (R : List Record) (o : ℕ) → IsTrue meaning R start → IsSearch start.shape R o q → NoneBefore q.shape R q.own o q.row position
+  pub none : (R : List Record) (o : ℕ) → IsTrue meaning R start → IsSearch start.shape R o q → NoneBefore q.shape R q.own o row position
 
-pub places_next : {D T : Type 0} (meaning : Meaning D) (start mid now : Held D) (q : Search) (here next : Option DataPlace) (position : ℕ) (x : T) → PlacesSought meaning start mid q here position → HasLooked {T = T} meaning mid now (Ok x)
+pub places_next : {D T : Type 0} (meaning : Meaning D) (start mid now : Held D) (q : Search) (row : ℕ) (here next : Option DataPlace) (position : ℕ) (x : T) → PlacesSought meaning start mid q row here position → HasLooked {T = T} meaning mid now (Ok x)
     → MatchOption next (data_count q.shape q.segment.extents ≤ position + 1) (λ p. IsPlace q.shape q.segment.extents p (position + 1))
-    → ((R : List Record) (o : ℕ) → IsTrue meaning R mid → IsSearch mid.shape R o q → FindsAt R q o position None) → PlacesSought meaning start now q next (position + 1)
-places_next meaning start mid now q here next position x s l p says = record {
+    → ((R : List Record) (o : ℕ) → IsTrue meaning R mid → IsSearch mid.shape R o q → FindsAt R q o row position None) → PlacesSought meaning start now q row next (position + 1)
+places_next meaning start mid now q row here next position x s l p says = record {
   looked = looked_on meaning start mid now tt (Ok tt) s.looked (looked_ok meaning mid now x tt l);
   place = p;
-  none = λ R o t h. none_at R q o position (s.none R o t h) (says R o (s.looked.stays_true R t) (search_on meaning start mid (Ok tt) R o q s.looked h));
+  none = λ R o t h. none_at R q o row position (s.none R o t h) (says R o (s.looked.stays_true R t) (search_on meaning start mid (Ok tt) R o q s.looked h));
 }
 
 -- a walk down from a slot

@@ -1,15 +1,15 @@
 -- A block of the ring of undo blocks that was never taken into use: it holds nothing, and its page was never written.
-use Rattle.std.proofs.Common.{◌≡◌, ℕ, zero, suc, ◌+◌, ◌<◌, ◌≤◌, min, Bool, true, false, cond, ◌||◌, eqb, List, [], ◌∷◌, Option, Some, None, refl, sym, ◌∙◌, ap, subst, arith, inl, inr, true≢false, eqb-true, eq-eqb, ne_eqb}
-use Rattle.seg_words.proofs.Lemmas.{cond-true, cond-false, cases_Bool}
+use Rattle.std.proofs.Common.{◌≡◌, ℕ, suc, ◌+◌, ◌<◌, ◌≤◌, min, Bool, true, false, cond, ◌||◌, eqb, List, [], ◌∷◌, Option, Some, None, refl, sym, ◌∙◌, ap, subst, arith, true≢false, eq-eqb, ne_eqb}
+use Rattle.seg_words.proofs.Lemmas.{cond-true, cond-false}
 use Rattle.seg_words.specs.Types.{Shape, first_block, is_shape}
 use Rattle.redo_model.specs.Records.{Record, Extend, FormatBlock, Begin, Reuse, Insert, Update, Migrate, Return, Delete, Move, ExtendRecord}
-use Rattle.redo_model.specs.Model.{Extent, Undone, extents_of, extent_at, block_in, group_start, data_blocks, high_mark, current_undo, undo_parts, undo_sequence, ExtendAllowed, AreAllowed}
+use Rattle.redo_model.specs.Model.{Extent, extents_of, extent_at, block_in, group_start, data_blocks, high_mark, current_undo, undo_parts, undo_sequence, ExtendAllowed, AreAllowed}
 use Rattle.redo_laws.specs.Among.{is_in}
 use Rattle.redo_laws.proofs.allowed.Basics.{basics}
 use Rattle.redo_laws.proofs.numbers.Bounds.{Limits, limits}
 use Rattle.redo_laws.proofs.space.Places.{in_take, in_data, format_first}
 use Rattle.page_model.specs.Types.{touched_sorts}
-use Rattle.sort_laws.specs.Sorts.{Sort, Blank, sort_after, sort_of}
+use Rattle.sort_laws.specs.Sorts.{Sort, Blank, sort_of}
 use Rattle.page_set.specs.declared.page.Page.TheVariants as pages
 use Rattle.page_set.specs.Folded.{page_of}
 use Rattle.page_fit.proofs.FitLaw.{is_zero, the_sort, undo_plain}

@@ -1,6 +1,6 @@
 -- Who changes a row: the active transaction of a session, or one that begins with the change.
 use Rattle.std.specs.Prelude.{◌≡◌, ◌⊎◌, ℕ, suc, ◌≤◌, ◌-◌, ◌^◌, true, List, position, Option, Some, None}
-use Rattle.redo_model.specs.Records.{Record, BeginRecord}
+use Rattle.redo_model.specs.Records.{Record}
 use Rattle.redo_model.specs.Model.{txn_count, is_active, entry_of, last_undo, place_of_undo, number_or_zero, TakesEntry}
 use Rattle.txn_block.specs.Types.{TxnTable, TakesNext, names, last_undo_in}
 use Rattle.end_laws.specs.Types.{MayBegin}

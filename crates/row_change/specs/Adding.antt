@@ -1,5 +1,5 @@
 -- The records of a change added to a true store.
-use Rattle.std.specs.Prelude.{◌≡◌, ◌⊎◌, ℕ, ◌≤◌, List, ◌∷◌, Option, Some, None, Result, OnOk, OnErr, IfErr}
+use Rattle.std.specs.Prelude.{◌⊎◌, ℕ, ◌≤◌, List, ◌∷◌, Option, Some, None, Result, OnOk, OnErr, IfErr}
 use Rattle.seg_words.specs.Types.{Shape}
 use Rattle.disk_model.specs.Crash.{Meaning}
 use Rattle.redo_model.specs.Records.{Record, Begin, Reuse, BeginRecord, ReuseRecord}

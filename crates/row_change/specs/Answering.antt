@@ -1,6 +1,5 @@
 -- What the changes of rows answer, and what each answer leaves.
 use Rattle.std.specs.Prelude.{◌≡◌, ◌⊎◌, ℕ, ◌≤◌, List, Option, Some, None, Result, Ok, Err}
-use Rattle.seg_words.specs.Types.{Shape}
 use Rattle.disk_model.specs.Crash.{Meaning}
 use Rattle.redo_model.specs.Records.{Record}
 use Rattle.store_core.specs.Store.{Held}

@@ -1,8 +1,8 @@
 -- A change as it is drafted, and what it is in the words of the list.
 use Rattle.std.specs.Prelude.{◌≡◌, ℕ, suc, ◌+◌, List, [], ◌∷◌, length, Option, Some, None}
-use Rattle.seg_words.specs.Types.{Rowid, UndoAddr, By, UNDO_PART_SIZE, next_room}
+use Rattle.seg_words.specs.Types.{UndoAddr, By, UNDO_PART_SIZE, next_room}
 use Rattle.redo_model.specs.Records.{Record, RowPart, RowBody, ReuseRecord}
-use Rattle.redo_model.specs.Model.{Content, ended_in, image, image_with, next_slot, part_addr, at_place, number_or_zero}
+use Rattle.redo_model.specs.Model.{Content, ended_in, image, image_with, next_slot, part_addr, number_or_zero}
 use Rattle.change_laws.specs.Types.{RowKind, Inserts, Updates, Migrates, Returns, Deletes, as_record, entry_by, Fill, Change}
 use Rattle.row_change.specs.declared.actor.Actor.{Actor}
 use Rattle.row_change.specs.declared.replaced.Replaced.{Replaced}

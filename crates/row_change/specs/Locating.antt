@@ -23,8 +23,8 @@ abbrev pub rows_of : Page → Option RowPage
 rows_of (Rows b) = Some b
 rows_of _ = None
 
--- The search is for a row of table o of a store with this shape, in a lawful list of which it has the table's segment, the
--- transaction table and the number of commits.
+-- The search is over table o of a store with this shape, in a lawful list of which it has the table's segment, the transaction
+-- table and the number of commits.
 pub record IsSearch (sh : Shape) (R : List Record) (o : ℕ) (q : Search) : Type 0 where
   pub shape_is : q.shape ≡ sh
   pub within : is_shape q.shape ≡ true
@@ -35,10 +35,9 @@ pub record IsSearch (sh : Shape) (R : List Record) (o : ℕ) (q : Search) : Type
   pub start_is : q.start ≡ commit_count R
   pub segment_is : IsSegment q.shape R o q.segment
 
--- and for this row, as own sees it
-pub record IsSearchFor (sh : Shape) (R : List Record) (o n : ℕ) (own : Option ℕ) (q : Search) : Type 0 where
+-- and sees what own does
+pub record IsSearchFor (sh : Shape) (R : List Record) (o : ℕ) (own : Option ℕ) (q : Search) : Type 0 where
   pub search : IsSearch sh R o q
-  pub row_is : q.row ≡ n
   pub own_is : q.own ≡ own
 
 -- the data block at this position of table o, in an extent that the table has at the index of the place
@@ -48,18 +47,18 @@ pub record IsBlockAt (sh : Shape) (R : List Record) (o : ℕ) (p : DataPlace) (p
   pub has : in_extent sh extent.number b ≡ true
   pub block : slice_get (data_blocks sh R o) position ≡ Some b
 
--- an image of row n, at p
-pub record IsSight (i : Slot) (p : Rowid) (n : ℕ) (x : Sight) : Type 0 where
+-- an image that holds a row, at p
+pub record IsSight (i : Slot) (p : Rowid) (x : Sight) : Type 0 where
   pub at_is : x.at ≡ p
   pub holds : holds_row i.kind ≡ true
-  pub row : i.row ≡ n
+  pub row : i.row ≡ x.row
   pub undo_is : i.undo ≡ Some x.undo
   pub head_is : IsHeadOf i x.head
 
--- what is shown of an image that counts: row n, or another one, or none
-abbrev pub SightOf : Slot → Rowid → ℕ → Option Sight → Type 0
-SightOf i p n None = holds_row i.kind ≡ true → i.row ≡ n → ⊥
-SightOf i p n (Some x) = IsSight i p n x
+-- what is shown of an image that counts: its row, or that it holds none
+abbrev pub SightOf : Slot → Rowid → Option Sight → Type 0
+SightOf i p None = holds_row i.kind ≡ true → ⊥
+SightOf i p (Some x) = IsSight i p x
 
 -- an image has all that is shown of it
 pub record HasSight (i : Slot) : Type 0 where
@@ -67,36 +66,46 @@ pub record HasSight (i : Slot) : Type 0 where
   pub undo_is : i.undo ≡ Some undo
   pub head : i.kind ≡ Body → HeadOf i
 
--- what is seen now of row n at p
-pub record IsSeen (R : List Record) (own : Option ℕ) (n : ℕ) (p : Rowid) (x : Sight) : Type 0 where
+-- the row that is seen now at p
+pub record IsSeen (R : List Record) (own : Option ℕ) (p : Rowid) (x : Sight) : Type 0 where
+  pub at_is : x.at ≡ p
+  pub seen : IsSeenAt R own x.row p x.undo x.head
+
+-- what is seen there: a row or none
+abbrev pub Sees : List Record → Option ℕ → Rowid → Option Sight → Type 0
+Sees R own p None = (n : ℕ) (bytes : List ℕ) → row_now R own p ≡ Some (n, bytes) → ⊥
+Sees R own p (Some x) = IsSeen R own p x
+
+-- row n, or not
+pub record IsSeenFor (R : List Record) (own : Option ℕ) (n : ℕ) (p : Rowid) (x : Sight) : Type 0 where
   pub at_is : x.at ≡ p
   pub seen : IsSeenAt R own n p x.undo x.head
 
-abbrev pub Sees : List Record → Option ℕ → ℕ → Rowid → Option Sight → Type 0
-Sees R own n p None = (bytes : List ℕ) → row_now R own p ≡ Some (n, bytes) → ⊥
-Sees R own n p (Some x) = IsSeen R own n p x
+abbrev pub SeesFor : List Record → Option ℕ → ℕ → Rowid → Option Sight → Type 0
+SeesFor R own n p None = (bytes : List ℕ) → row_now R own p ≡ Some (n, bytes) → ⊥
+SeesFor R own n p (Some x) = IsSeenFor R own n p x
 
--- the same of a search, by the page alone
+-- what a search sees, by the page alone
 abbrev pub Shows : List Record → Search → Rowid → showns.Shown → Type 0
-Shows R q p (shown.Here x) = Sees R q.own q.row p x
+Shows R q p (shown.Here x) = Sees R q.own p x
 Shows R q p (shown.Below a) = StepsTo q.shape R p.dba p.slot q.start q.own a
 
--- no slot of the block from this number on gives the row
+-- no slot of the block from this number on gives a row
 abbrev pub NoneFrom : List Record → Search → ℕ → ℕ → Type 0
-NoneFrom R q b from = (k : ℕ) → from ≤ k → Sees R q.own q.row (at_place b k) None
+NoneFrom R q b from = (k : ℕ) → from ≤ k → Sees R q.own (at_place b k) None
 
--- nor one before it
-abbrev pub NoneBelow : List Record → Search → ℕ → ℕ → Type 0
-NoneBelow R q b end = (k : ℕ) → k < end → Sees R q.own q.row (at_place b k) None
+-- no slot before it gives row n
+abbrev pub NoneBelow : List Record → Search → ℕ → ℕ → ℕ → Type 0
+NoneBelow R q n b end = (k : ℕ) → k < end → SeesFor R q.own n (at_place b k) None
 
 -- what a whole block shows
 pub record IsSeenIn (R : List Record) (own : Option ℕ) (n b : ℕ) (x : Sight) : Type 0 where
   pub block : x.at.dba ≡ b
   pub seen : IsSeenAt R own n x.at x.undo x.head
 
-abbrev pub SeesIn : List Record → Search → ℕ → Option Sight → Type 0
-SeesIn R q b None = GivesNone R q.own q.row b
-SeesIn R q b (Some x) = IsSeenIn R q.own q.row b x
+abbrev pub SeesIn : List Record → Search → ℕ → ℕ → Option Sight → Type 0
+SeesIn R q n b None = GivesNone R q.own n b
+SeesIn R q n b (Some x) = IsSeenIn R q.own n b x
 
 -- row n of table o stands at the place now, which is what a change of the row takes
 pub record IsPlaceOf (sh : Shape) (R : List Record) (own : Option ℕ) (o n : ℕ) (p : Place) : Type 0 where
@@ -104,14 +113,14 @@ pub record IsPlaceOf (sh : Shape) (R : List Record) (own : Option ℕ) (o n : �
   pub found : WasFound sh R own o n p.at p.born p.undo p.start
 
 -- what a data block of table o gives of the row
-abbrev pub FindsIn : List Record → Search → ℕ → ℕ → Option Place → Type 0
-FindsIn R q o b None = GivesNone R q.own q.row b
-FindsIn R q o b (Some p) = IsPlaceOf q.shape R q.own o q.row p
+abbrev pub FindsIn : List Record → Search → ℕ → ℕ → ℕ → Option Place → Type 0
+FindsIn R q o n b None = GivesNone R q.own n b
+FindsIn R q o n b (Some p) = IsPlaceOf q.shape R q.own o n p
 
 -- so the block at a position, where there is one
-abbrev pub FindsAt : List Record → Search → ℕ → ℕ → Option Place → Type 0
-FindsAt R q o position None = (b : ℕ) → slice_get (data_blocks q.shape R o) position ≡ Some b → GivesNone R q.own q.row b
-FindsAt R q o position (Some p) = IsPlaceOf q.shape R q.own o q.row p
+abbrev pub FindsAt : List Record → Search → ℕ → ℕ → ℕ → Option Place → Type 0
+FindsAt R q o n position None = (b : ℕ) → slice_get (data_blocks q.shape R o) position ≡ Some b → GivesNone R q.own n b
+FindsAt R q o n position (Some p) = IsPlaceOf q.shape R q.own o n p
 
 -- and the whole table
 abbrev pub Locates : Shape → List Record → Option ℕ → ℕ → ℕ → Option Place → Type 0

@@ -1,5 +1,5 @@
 -- What a change of a row asks of a page; none of a page that can't be asked so.
-use Rattle.std.specs.Prelude.{ℕ, ◌+◌, Bool, cond, ltb, List, length, slice_index_or, Option, Some, None}
+use Rattle.std.specs.Prelude.{ℕ, ◌+◌, Bool, cond, ltb, length, slice_index_or, Option, Some, None}
 use Rattle.seg_words.specs.Types.{LONGEST_ROW, UNDO_PART_SIZE, Block, Slot, new_slot, entry_for, slot_to_use, next_room}
 use Rattle.redo_model.specs.Model.{number_or_zero}
 use Rattle.txn_block.specs.Types.{TxnTable}

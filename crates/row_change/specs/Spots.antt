@@ -1,5 +1,5 @@
 -- Where the undo of a change goes, as the code says it.
-use Rattle.std.specs.Prelude.{◌≡◌, ℕ, suc, ◌+◌, ◌-◌, ◌≤◌, cond, ltb, List, length, Option, Some, None}
+use Rattle.std.specs.Prelude.{◌≡◌, ℕ, ◌+◌, ◌-◌, ◌≤◌, cond, ltb, List, length, Some, None}
 use Rattle.seg_words.specs.Types.{Shape, MOST_UNDO_PARTS, OWN_BLOCKS}
 use Rattle.redo_model.specs.Records.{Record}
 use Rattle.redo_model.specs.Model.{next_undo, ring_after, undo_holder, undo_parts, undo_sequence, undo_used}

@@ -84,7 +84,11 @@ fn born_in<D: Disk>(store: &mut Store<D>, first: Dba) -> Result<Lsn, StoreFault>
 }
 
 /// The incarnation of the table's extent at an index.
-fn born_at<D: Disk>(store: &mut Store<D>, search: &Search, index: u16) -> Result<Lsn, StoreFault>
+pub fn born_at<D: Disk>(
+    store: &mut Store<D>,
+    search: &Search,
+    index: u16,
+) -> Result<Lsn, StoreFault>
     ensures looked { HasLooked D.meaning store.old store.new result }
     ensures says { (R : List Record) (o : ℕ) (e : Extent) → IsTrue D.meaning R store.old → IsSearch store.old.shape R o search.now → extent_at (extents_of R o) index ≡ Some e → IfOk result (λ l. l ≡ e.incarnation) }
     ensures sound { (R : List Record) (o : ℕ) (e : Extent) → IsTrue D.meaning R store.old → IsSearch store.old.shape R o search.now → extent_at (extents_of R o) index ≡ Some e → store.old.fault ≡ None → IfErr result IsSoundFault }
@@ -103,7 +107,7 @@ fn place_of<D: Disk>(
     sight: Sight,
 ) -> Result<Place, StoreFault>
     ensures looked { HasLooked D.meaning store.old store.new result }
-    ensures says { (R : List Record) (o position b : ℕ) → IsTrue D.meaning R store.old → IsSearch store.old.shape R o search.now → IsBlockAt search.now.shape R o here.now position b → IsSeenIn R search.now.own search.now.row b sight → IfOk result (IsPlaceOf search.now.shape R search.now.own o search.now.row) }
+    ensures says { (R : List Record) (o n position b : ℕ) → IsTrue D.meaning R store.old → IsSearch store.old.shape R o search.now → IsBlockAt search.now.shape R o here.now position b → IsSeenIn R search.now.own n b sight → IfOk result (IsPlaceOf search.now.shape R search.now.own o n) }
     ensures sound { (R : List Record) (o position b : ℕ) → IsTrue D.meaning R store.old → IsSearch store.old.shape R o search.now → IsBlockAt search.now.shape R o here.now position b → store.old.fault ≡ None → IfErr result IsSoundFault }
 {
     match born_at(store, search, here.index) {
@@ -124,12 +128,13 @@ fn find_in<D: Disk>(
     search: &Search,
     here: &DataPlace,
     dba: Dba,
+    row: RowNo,
 ) -> Result<Option<Place>, StoreFault>
     ensures looked { HasLooked D.meaning store.old store.new result }
-    ensures says { (R : List Record) (o position : ℕ) → IsTrue D.meaning R store.old → IsSearch store.old.shape R o search.now → IsBlockAt search.now.shape R o here.now position dba → IfOk result (FindsIn R search.now o dba) }
+    ensures says { (R : List Record) (o position : ℕ) → IsTrue D.meaning R store.old → IsSearch store.old.shape R o search.now → IsBlockAt search.now.shape R o here.now position dba → IfOk result (FindsIn R search.now o row dba) }
     ensures sound { (R : List Record) (o position : ℕ) → IsTrue D.meaning R store.old → IsSearch store.old.shape R o search.now → IsBlockAt search.now.shape R o here.now position dba → store.old.fault ≡ None → IfErr result IsSoundFault }
 {
-    match look_in_block(store, dba, search) {
+    match look_in_block(store, dba, search, row) {
         Err(fault) => Err(fault),
         Ok(None) => Ok(None),
         Ok(Some(sight)) => match place_of(store, search, here, sight) {
@@ -144,23 +149,28 @@ fn find_at<D: Disk>(
     store: &mut Store<D>,
     search: &Search,
     here: &DataPlace,
+    row: RowNo,
 ) -> Result<Option<Place>, StoreFault>
     ensures looked { HasLooked D.meaning store.old store.new result }
-    ensures says { (R : List Record) (o position : ℕ) → IsTrue D.meaning R store.old → IsSearch store.old.shape R o search.now → IsPlace search.now.shape (length (extents_of R o)) here.now position → IfOk result (FindsAt R search.now o position) }
+    ensures says { (R : List Record) (o position : ℕ) → IsTrue D.meaning R store.old → IsSearch store.old.shape R o search.now → IsPlace search.now.shape (length (extents_of R o)) here.now position → IfOk result (FindsAt R search.now o row position) }
     ensures sound { (R : List Record) (o position : ℕ) → IsTrue D.meaning R store.old → IsSearch store.old.shape R o search.now → IsPlace search.now.shape (length (extents_of R o)) here.now position → store.old.fault ≡ None → IfErr result IsSoundFault }
 {
     match block_at(store, search, here) {
-        Ok(dba) => find_in(store, search, here, dba),
+        Ok(dba) => find_in(store, search, here, dba, row),
         Err(fault) => Err(fault),
     }
 }
 
 /// The row's place in the first data block under the high mark that gives it, in order of position: no other does.
-fn find<D: Disk>(store: &mut Store<D>, search: &Search) -> Result<Option<Place>, StoreFault>
+fn find<D: Disk>(
+    store: &mut Store<D>,
+    search: &Search,
+    row: RowNo,
+) -> Result<Option<Place>, StoreFault>
     requires unspent { store.old.fault ≡ None }
     requires shape { is_shape search.now.shape ≡ true }
     ensures looked { HasLooked D.meaning store.old store.new result }
-    ensures says { (R : List Record) (o : ℕ) → IsTrue D.meaning R store.old → IsSearch store.old.shape R o search.now → IfOk result (Locates search.now.shape R search.now.own o search.now.row) }
+    ensures says { (R : List Record) (o : ℕ) → IsTrue D.meaning R store.old → IsSearch store.old.shape R o search.now → IfOk result (Locates search.now.shape R search.now.own o row) }
     ensures sound { (R : List Record) (o : ℕ) → IsTrue D.meaning R store.old → IsSearch store.old.shape R o search.now → IfErr result IsSoundFault }
 {
     let extents = search.segment.extents;
@@ -169,7 +179,7 @@ fn find<D: Disk>(store: &mut Store<D>, search: &Search) -> Result<Option<Place>,
         let _ = position;
         match next {
             None => return Ok(None),
-            Some(here) => match find_at(store, search, &here) {
+            Some(here) => match find_at(store, search, &here, row) {
                 Err(fault) => return Err(fault),
                 Ok(Some(place)) => return Ok(Some(place)),
                 Ok(None) => next = here.next(&search.shape, extents),
@@ -179,15 +189,15 @@ fn find<D: Disk>(store: &mut Store<D>, search: &Search) -> Result<Option<Place>,
     Ok(None)
 }
 
-fn search_for<D: Disk>(
+/// How the slots of a table are looked at, for an active transaction or none.
+pub fn search_for<D: Disk>(
     alloc: Global,
     store: &mut Store<D>,
     obj: Obj,
-    row: RowNo,
     own: Option<TxnId>,
 ) -> Result<Search, StoreFault>
     ensures looked { HasLooked D.meaning store.old store.new result }
-    ensures says { (R : List Record) → IsTrue D.meaning R store.old → IsTable R obj → IsOwn R own → IfOk result (IsSearchFor store.old.shape R obj row own) }
+    ensures says { (R : List Record) → IsTrue D.meaning R store.old → IsTable R obj → IsOwn R own → IfOk result (IsSearchFor store.old.shape R obj own) }
     ensures sound { (R : List Record) → IsTrue D.meaning R store.old → IsTable R obj → store.old.fault ≡ None → IfErr result IsSoundFault }
     ensures shape { IfOk result (λ q. is_shape q.shape ≡ true) }
 {
@@ -205,7 +215,6 @@ fn search_for<D: Disk>(
             shape,
             segment,
             table,
-            row,
             own,
             start,
         }),
@@ -230,8 +239,8 @@ pub fn locate<D: Disk>(
     ensures says { (R : List Record) → IsTrue D.meaning R store.old → IsTable R obj → IsOwn R own → IfOk result (Locates store.old.shape R own obj row) }
     ensures sound { (R : List Record) → IsTrue D.meaning R store.old → IsTable R obj → IsOwn R own → store.old.fault ≡ None → IfErr result IsSoundFault }
 {
-    match search_for(alloc, store, obj, row, own) {
-        Ok(search) => find(store, &search),
+    match search_for(alloc, store, obj, own) {
+        Ok(search) => find(store, &search, row),
         Err(fault) => Err(fault),
     }
 }

@@ -1,14 +1,20 @@
-//! Changes of rows over a store. `insert` adds the Begin of its transaction where none is active, the Reuse of an undo block
-//! where its undo asks for one, and one row record, or refuses and leaves the list as it was. `locate` tells where a row stands.
+//! Changes of rows over a store. `insert` and `delete` add the Begin of their transaction where none is active, the Reuse of an
+//! undo block where their undo asks for one, and one row record, or refuse and leave the list as it was. `locate` tells where a
+//! row stands.
 #![tactic(auto)]
 
 mod actor;
 mod adding;
 mod answer;
 mod blocks;
+mod born;
 mod counting;
+mod deciding;
+mod deleting;
 mod draft;
 mod inserting;
+mod lacking;
+mod looking;
 mod making;
 mod opening;
 mod place;
@@ -18,8 +24,10 @@ mod ring;
 mod sight;
 mod slots;
 mod spot;
+mod stand;
 
 pub use answer::{ChangeFault, Done};
 pub use blocks::locate;
+pub use deleting::delete;
 pub use inserting::insert;
 pub use place::Place;

@@ -1,4 +1,4 @@
-// What an image and the page of its slot show of a row.
+// What an image and the page of its slot show.
 ghost use Rattle.std.specs.Prelude.{◌≡◌, ℕ, true, List, Some, slice_get, option_map, IfOk, IsOk};
 ghost use Rattle.seg_words.specs.Types.{Shape as TheShape, Body};
 ghost use Rattle.redo_model.specs.Records.{Record};
@@ -17,27 +17,28 @@ use segment_read::{Segment, WrongPage};
 use txn_block::TxnBlock;
 use version_read::{Version, look_in};
 
-/// A row that is looked for, by its number, as an active transaction or none sees it at all commits: in which table, by which
-/// transaction table, and the number of commits.
+/// How slots of a table are looked at: as an active transaction or none sees them at all commits, by the transaction table, the
+/// number of commits and the table's segment.
 #[derive(Drop)]
 pub struct Search {
     pub shape: Shape,
     pub segment: Segment,
     pub table: TxnBlock,
-    pub row: RowNo,
     pub own: Option<TxnId>,
     pub start: Scn,
 }
 
-/// The slot that shows the row, the undo address of the version there, and the row's head where that stands in a slot of its own.
+/// A row that a slot shows: its number, the undo address of the version there, and its head where that stands in a slot of its
+/// own.
 #[derive(Clone, Copy)]
 pub struct Sight {
     pub at: Rowid,
+    pub row: RowNo,
     pub undo: UndoAddr,
     pub head: Option<Rowid>,
 }
 
-/// What a slot shows by its page and the transaction table alone: the row or not, or that an older image counts, which stands at
+/// What a slot shows by its page and the transaction table alone: a row or none, or that an older image counts, which stands at
 /// an undo address.
 #[derive(Clone, Copy)]
 pub enum Shown {
@@ -68,19 +69,25 @@ fn head_of(image: &Slot) -> Result<Option<Rowid>, WrongPage>
     }
 }
 
-/// What an image shows of a row, in a slot for which it counts. One of the row that has no undo address, and a body that names
-/// no head, is refused.
-pub fn sight_of(image: &Slot, at: Rowid, row: RowNo) -> Result<Option<Sight>, WrongPage>
-    ensures says { IfOk result (SightOf image.now at row) }
+/// The row of an image, in a slot for which it counts. A row that has no undo address, and a body that names no head, is
+/// refused.
+pub fn sight_of(image: &Slot, at: Rowid) -> Result<Option<Sight>, WrongPage>
+    ensures says { IfOk result (SightOf image.now at) }
     ensures right { HasSight image.now → IsOk result }
 {
-    if image.row.0 != row.0 || !holds_row(image.kind) {
+    if !holds_row(image.kind) {
         return Ok(None);
     }
+    let row = image.row;
     match image.undo {
         None => Err(WrongPage),
         Some(undo) => match head_of(image) {
-            Ok(head) => Ok(Some(Sight { at, undo, head })),
+            Ok(head) => Ok(Some(Sight {
+                at,
+                row,
+                undo,
+                head,
+            })),
             Err(wrong) => Err(wrong),
         },
     }
@@ -95,7 +102,7 @@ fn slot_shown(block: &RowBlock, at: Rowid, search: &Search) -> Result<Shown, Wro
         Some(Version::Nothing) => Ok(Shown::Here(None)),
         Some(Version::Step(below)) => Ok(Shown::Below(below)),
         Some(Version::TooOldEntry(_)) => Err(WrongPage),
-        Some(Version::Row(image)) => match sight_of(image, at, search.row) {
+        Some(Version::Row(image)) => match sight_of(image, at) {
             Ok(sight) => Ok(Shown::Here(sight)),
             Err(wrong) => Err(wrong),
         },

@@ -1,6 +1,5 @@
-use Rattle.std.proofs.Common.{◌∷◌, List, Option, Some, Ok, Err, sym, subst}
-use Rattle.std.specs.Prelude.{Result}
-use Rattle.redo_model.specs.Records.{Record, Begin, BeginRecord}
+use Rattle.std.proofs.Common.{◌∷◌, Option, Ok, sym, subst}
+use Rattle.redo_model.specs.Records.{Begin, BeginRecord}
 use Rattle.redo_model.specs.Model.{IsLawful}
 use Rattle.store_core.specs.Adding.{Adds}
 use Rattle.row_change.specs.Adding.{begun}

@@ -1,5 +1,5 @@
-use Rattle.std.proofs.Common.{◌∷◌, List, Option, refl, sym, subst}
-use Rattle.redo_model.specs.Records.{Record, ReuseRecord}
+use Rattle.std.proofs.Common.{◌∷◌, Option, refl, sym, subst}
+use Rattle.redo_model.specs.Records.{ReuseRecord}
 use Rattle.redo_model.specs.Model.{IsLawful}
 use Rattle.store_core.specs.Adding.{Adds}
 use Rattle.row_change.specs.Adding.{reused}

@@ -1,5 +1,3 @@
-use Rattle.std.proofs.Common.{◌+◌, sym, ◌∙◌, ap, arith}
-use Rattle.seg_words.specs.Types.{Shape, first_block}
 use Rattle.store_core.proofs.Lookups.{looked_on}
 use Rattle.row_change.proofs.Having.{some_extent}
 use Rattle.row_change.proofs.Searching.{still_unspent}

@@ -15,7 +15,7 @@ pub returns-in-Ok-clause-says : goal.returns-in-Ok-clause-says
 returns-in-Ok-clause-says g c = λ R o position t h p.
     let s = stands_at c.args.search.now.shape R o c.args.here.now position p in
     let b = block_is c.args.search.now.shape R o c.args.here.now position c.in-Ok.dba s (c.in-Ok.ensures.says R o s.extent t h s.at) in
-    finds_told R c.args.search.now o c.args.here.now position c.in-Ok.dba c.find_in.result b (c.find_in.ensures.says R o position (c.in-Ok.ensures.looked.stays_true R t) (search_on g.D.Disk.meaning c.args.store.now c.block_at.new.store _ R o c.args.search.now c.in-Ok.ensures.looked h) b)
+    finds_told R c.args.search.now o c.args.row c.args.here.now position c.in-Ok.dba c.find_in.result b (c.find_in.ensures.says R o position (c.in-Ok.ensures.looked.stays_true R t) (search_on g.D.Disk.meaning c.args.store.now c.block_at.new.store _ R o c.args.search.now c.in-Ok.ensures.looked h) b)
 
 pub returns-in-Ok-clause-sound : goal.returns-in-Ok-clause-sound
 returns-in-Ok-clause-sound g c = λ R o position t h p n.

@@ -1,6 +1,6 @@
 use Rattle.store_core.proofs.Lookups.{looked_on}
-use Rattle.row_change.proofs.Positions.{locates_told, search_at}
-use Rattle.row_change.proofs.Searching.{search_on, still_unspent}
+use Rattle.row_change.proofs.Positions.{locates_told}
+use Rattle.row_change.proofs.Searching.{search_on}
 use Rattle.row_change.proofs.blocks.locate.Goals as goal
 
 pub returns-in-Ok-clause-looked : goal.returns-in-Ok-clause-looked

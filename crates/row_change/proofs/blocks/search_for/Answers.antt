@@ -13,8 +13,8 @@ returns-in-Ok-read_segment-clause-looked g c = looked_ok g.D.Disk.meaning c.args
 pub returns-in-Ok-read_segment-clause-says : goal.returns-in-Ok-read_segment-clause-says
 returns-in-Ok-read_segment-clause-says g c = λ R t i w.
     let l = c.in-Ok.ensures.looked in
-    searched c.args.store.now.shape c.copy_table.new.self.shape R c.args.obj c.args.row c.args.own _ c.shape-shape.ensures l.loan.shape t.list.within t.lawful i w (c.in-Ok.ensures.holds R t) (c.commits-start.ensures.list R t.list)
-    (c.in-Ok-read_segment.ensures.says R (l.stays_true R t) i) refl refl
+    searched c.args.store.now.shape c.copy_table.new.self.shape R c.args.obj c.args.own _ c.shape-shape.ensures l.loan.shape t.list.within t.lawful i w (c.in-Ok.ensures.holds R t) (c.commits-start.ensures.list R t.list)
+    (c.in-Ok-read_segment.ensures.says R (l.stays_true R t) i) refl
 
 pub returns-in-Err-read_segment-clause-looked : goal.returns-in-Err-read_segment-clause-looked
 returns-in-Err-read_segment-clause-looked g c = refused_after g.D.Disk.meaning c.args.store.now c.copy_table.new.self c.read_segment.new.store c.in-Ok.table c.in-Err-read_segment.fault c.in-Ok.ensures.looked c.in-Err-read_segment.ensures.looked

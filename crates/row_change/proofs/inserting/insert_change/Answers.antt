@@ -1,4 +1,4 @@
-use Rattle.std.proofs.Common.{Ok, ℕ, suc, ap, subst, ◌∙◌, refl, arith}
+use Rattle.std.proofs.Common.{suc, ap, subst, ◌∙◌, refl, arith}
 use Rattle.redo_model.specs.Model.{Content, plain_row, at_place, next_slot}
 use Rattle.change_laws.specs.Types.{fill}
 use Rattle.store_core.proofs.Lookups.{looked_ok, looked_err, looked_memory, looked_same}

@@ -1,5 +1,4 @@
 use Rattle.store_core.proofs.Lookups.{looked_ok}
-use Rattle.row_change.specs.Drafting.{place_or, replaced_of}
 use Rattle.row_change.proofs.Acted.{acts_as}
 use Rattle.row_change.proofs.Given.{fill_is, replaced_found, rows_there}
 use Rattle.row_change.proofs.opening.fill_at.Goals as goal

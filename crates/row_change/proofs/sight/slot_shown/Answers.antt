@@ -1,10 +1,10 @@
-use Rattle.std.proofs.Common.{◌≡◌, subst}
+use Rattle.std.proofs.Common.{subst}
 use Rattle.version_read.specs.Walking as walking
 use Rattle.row_change.proofs.Sights.{reader_of, sees_row, sees_none, no_slot, never_unknown, has_sight}
 use Rattle.row_change.proofs.sight.slot_shown.Goals as goal
 
 pub returns-in-None-clause-says : goal.returns-in-None-clause-says
-returns-in-None-clause-says c = λ sh R o h p. no_slot R c.args.search.now.own c.args.search.now.row c.args.at (λ l. (c.in-None.ensures.there R c.args.at.dba p).1 l)
+returns-in-None-clause-says c = λ sh R o h p. no_slot R c.args.search.now.own c.args.at (λ l. (c.in-None.ensures.there R c.args.at.dba p).1 l)
 
 pub returns-in-Some-Nothing-clause-says : goal.returns-in-Some-Nothing-clause-says
 returns-in-Some-Nothing-clause-says c = λ sh R o h p. sees_none sh R o c.args.search.now c.args.at h (subst (walking.Shows c.args.search.now.shape R c.args.at.dba c.args.at.slot c.args.search.now.start c.args.search.now.own) c.in-Some-Nothing.field-0-is (c.in-Some-Nothing.ensures.slot c.args.search.now.shape R c.args.at.dba (reader_of sh R o c.args.search.now h) h.txns p))

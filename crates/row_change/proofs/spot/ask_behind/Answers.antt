@@ -1,5 +1,4 @@
-use Rattle.std.proofs.Common.{◌≡◌, Ok, Err, Some, ℕ, ◌<◌, ◌-◌, ◌^◌, Option, sym, ap, ◌∙◌, subst}
-use Rattle.redo_model.specs.Model.{undo_holder}
+use Rattle.std.proofs.Common.{Ok, Err, Some, ℕ, ◌<◌, ◌-◌, ◌^◌, sym, ap, ◌∙◌, subst}
 use Rattle.store_core.proofs.Lookups.{looked_on, looked_ok, looked_err}
 use Rattle.row_change.specs.declared.ring.UndoState.{UndoState}
 use Rattle.row_change.proofs.Numbered.{fewer}

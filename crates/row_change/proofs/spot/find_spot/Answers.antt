@@ -1,8 +1,6 @@
-use Rattle.std.proofs.Common.{◌≡◌, Ok, Err, Some, sym, ap, ◌∙◌}
-use Rattle.redo_model.specs.Model.{current_undo}
-use Rattle.change_laws.specs.Types.{spot_by, spot_for}
-use Rattle.store_core.proofs.Lookups.{looked_on, looked_err}
-use Rattle.row_change.specs.Spots.{told_spot}
+use Rattle.std.proofs.Common.{Some, sym, ap, ◌∙◌}
+use Rattle.change_laws.specs.Types.{spot_by}
+use Rattle.store_core.proofs.Lookups.{looked_on}
 use Rattle.row_change.proofs.Found.{spot_ok, first_spot}
 use Rattle.row_change.proofs.Searches.{current_ring}
 use Rattle.row_change.proofs.Unused.{none_used}

@@ -1,6 +1,6 @@
 use Rattle.std.proofs.Common.{sym, ap, arith}
 use Rattle.change_laws.specs.Types.{Next}
-use Rattle.store_core.proofs.Lookups.{looked_ok, looked_err}
+use Rattle.store_core.proofs.Lookups.{looked_ok}
 use Rattle.row_change.proofs.spot.first_spot.Goals as goal
 
 pub returns-in-Ok-clause-looked : goal.returns-in-Ok-clause-looked

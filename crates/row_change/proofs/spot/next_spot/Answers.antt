@@ -1,4 +1,4 @@
-use Rattle.std.proofs.Common.{◌≡◌, ℕ, true, List, Ok, Err, sym, ap, ◌∙◌, subst, arith}
+use Rattle.std.proofs.Common.{◌≡◌, ℕ, true, List, Ok, Err, sym, subst, arith}
 use Rattle.seg_words.specs.Types.{Shape, is_shape}
 use Rattle.version_laws.specs.Types.{IsInRing}
 use Rattle.store_core.specs.Causes.{HasLooked}

@@ -1,4 +1,4 @@
-use Rattle.std.proofs.Common.{Ok, Err, ℕ, arith, sym, ap, ◌∙◌, subst, ltb-true, ltb-false, true≢false}
+use Rattle.std.proofs.Common.{arith, sym, ap, ◌∙◌, ltb-true, ltb-false}
 use Rattle.store_core.proofs.Lookups.{looked_same, looked_err}
 use Rattle.row_change.specs.declared.ring.UndoState.{UndoState}
 use Rattle.row_change.proofs.Found.{spot_ok, beside_next, beside_here}

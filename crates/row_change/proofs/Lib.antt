@@ -18,3 +18,7 @@ pub mod Belonging
 pub mod Looked
 pub mod Listed
 pub mod Decided
+pub mod Fitted
+pub mod Ways
+pub mod Moved
+pub mod Updated

@@ -15,10 +15,11 @@ use Rattle.script_text.specs.declared.statement.Statement.{Statement}
 use Rattle.script_text.specs.declared.statement.Statement.TheVariants as asked
 use Rattle.script_text.specs.declared.statement.Target.{Target}
 use Rattle.history_model.specs.Spans.{Span, own_then, target_row, table_asked, target_asked}
-use Rattle.history_model.specs.Causes.{IsOnRow}
+use Rattle.history_model.specs.Causes.{IsOnRow, IsFound}
 use Rattle.history_model.specs.Makes.{Makes}
-use Rattle.history_model.specs.RowMeans.{IsUpdate}
-use Rattle.history_laws.specs.Changing.{with_begin, with_reuse, IsBegunFor, AddsChange, InsertsTell, UpdatesTell, DeletesTell}
+use Rattle.history_model.specs.RowMeans.{IsUpdate, row_block, GoesTo}
+use Rattle.history_model.specs.RowMeans.{with_begin, with_reuse}
+use Rattle.history_laws.specs.Changing.{IsBegunFor, AddsChange, InsertsTell, UpdatesTell, DeletesTell}
 use Rattle.history_laws.proofs.Owned.{none_some, same_some}
 
 -- ---- the list with a change
@@ -93,6 +94,15 @@ bytes_of : (R : List Record) (t : ℕ) (a : UndoAddr) (i : ℕ) (fs : List Fill)
 bytes_of R t a i [] = refl
 bytes_of R t a i (f ∷ fs) = ap (cond (holds_row f.content.kind) f.content.bytes) (bytes_of R t a (suc i) fs)
 
+-- and their block
+abbrev fills_block : List Fill → Option ℕ
+fills_block [] = None
+fills_block (f ∷ fs) = cond (holds_row f.content.kind) (Some f.at.dba) (fills_block fs)
+
+block_of : (R : List Record) (t : ℕ) (a : UndoAddr) (i : ℕ) (fs : List Fill) → row_block (parts_of R t a i fs) ≡ fills_block fs
+block_of R t a i [] = refl
+block_of R t a i (f ∷ fs) = ap (cond (holds_row f.content.kind) (Some f.at.dba)) (block_of R t a (suc i) fs)
+
 named_on : (Q : List Record) (name : List ℕ) (o : ℕ) (q : Option ReuseRecord) (g : Option BeginRecord) → table_named Q name ≡ Some o → table_named (with_reuse q (with_begin g Q)) name ≡ Some o
 named_on Q name o None None e = e
 named_on Q name o None (Some g) e = e
@@ -125,16 +135,41 @@ update_text Q o n s text None ToOther c h e = none_some c _ e
 update_text Q o n (Whole p) text (Some b) ToOther c h e = subst (λ (z : Change). IsUpdateKind z.kind × IsTextOf o n text z) (same_some (migrate_of Q o n (Whole p) b text) c e) (tt, record { obj = refl; row = refl; bytes = refl })
 update_text Q o n (Apart head body) text (Some b) ToOther c h e = subst (λ (z : Change). IsUpdateKind z.kind × IsTextOf o n text z) (same_some (migrate_of Q o n (Apart head body) b text) c e) (tt, record { obj = refl; row = refl; bytes = refl })
 
+-- a row that goes to another block goes to the given one
+record IsGiven (sh : Shape) (x : Span) (st : Statement) (fs : List Fill) : Type 0 where
+  block : ℕ
+  is_found : IsFound sh x st block
+  at : fills_block fs ≡ Some block
+
+abbrev GoesInto : Shape → Span → Statement → RowKind → List Fill → Type 0
+GoesInto sh x st Migrates fs = IsGiven sh x st fs
+GoesInto sh x st k fs = Unit {0}
+
+update_goes : (sh : Shape) (x : Span) (st : Statement) (Q : List Record) (o n : ℕ) (s : Stand) (text : List ℕ) (to : Option ℕ) (p : Path) (c : Change) → MatchOption to (Unit {0}) (λ b. IsFound sh x st b) → change_by Q o n s text to p ≡ Some c → GoesInto sh x st c.kind c.fills
+update_goes sh x st Q o n s text to InPlace c f e = subst (λ (z : Change). GoesInto sh x st z.kind z.fills) (same_some (update_of Q o n s text) c e) tt
+update_goes sh x st Q o n (Whole p) text to ToHead c f e = none_some c _ e
+update_goes sh x st Q o n (Apart head body) text to ToHead c f e = subst (λ (z : Change). GoesInto sh x st z.kind z.fills) (same_some (return_of o n head body text) c e) tt
+update_goes sh x st Q o n s text None ToOther c f e = none_some c _ e
+update_goes sh x st Q o n (Whole p) text (Some b) ToOther c f e = subst (λ (z : Change). GoesInto sh x st z.kind z.fills) (same_some (migrate_of Q o n (Whole p) b text) c e) (record { block = b; is_found = f; at = refl })
+update_goes sh x st Q o n (Apart head body) text (Some b) ToOther c f e = subst (λ (z : Change). GoesInto sh x st z.kind z.fills) (same_some (migrate_of Q o n (Apart head body) b text) c e) (record { block = b; is_found = f; at = refl })
+
+goes_to : (sh : Shape) (x : Span) (st : Statement) (k : RowKind) (body : RowBody) (fs : List Fill) → row_block body.parts ≡ fills_block fs → GoesInto sh x st k fs → GoesTo sh x st (as_record k body)
+goes_to sh x st Migrates body fs e h = record { block = h.block; is_found = h.is_found; at = e ∙ h.at }
+goes_to sh x st Inserts body fs e h = tt
+goes_to sh x st Updates body fs e h = tt
+goes_to sh x st Returns body fs e h = tt
+goes_to sh x st Deletes body fs e h = tt
+
 -- ---- the laws
 
 pub inserts_tell : InsertsTell
-inserts_tell sh x name label text o b next h still adds =
+inserts_tell sh x name label text o b next h still found adds =
     let c = insert_of x.ended o b text in
     let m = changed_of sh x.ended x.session c next adds in
     let L = with_reuse m.reuse (with_begin m.begin x.ended) in
     record {
       made = record { begin = m.begin; reuse = m.reuse; rec = record_of L m.txn m.at c; next_is = m.is; begins = m.session; makes = (record { own = m.own; table = named_on x.ended name o m.reuse m.begin still }, refl) };
-      means = record { before = L; body = body_at L m.txn m.at c; change = record { table = h.table; own = m.own; one = m.rows ∙ h.idle.rows }; number = refl; text_is = refl; ends = m.is };
+      means = record { before = L; body = body_at L m.txn m.at c; change = record { table = h.table; own = m.own; one = m.rows ∙ h.idle.rows; event = x.ended; idle = h.idle; begin = m.begin; reuse = m.reuse; before_is = refl }; number = refl; text_is = refl; block = b; is_found = found; at = refl; ends = m.is };
     }
 
 update_made : (sh : Shape) (x : Span) (name : List ℕ) (target : Target) (text : List ℕ) (L : List Record) (k : RowKind) (body : RowBody) → IsUpdateKind k → own_of L x.session ≡ Some body.txn → table_named L name ≡ Some body.obj → target_row x.scripts x.past target ≡ Some body.row → row_bytes body.parts ≡ text
@@ -164,7 +199,7 @@ table_meant : (x : Span) (st : Statement) (name : List ℕ) (o n : ℕ) → tabl
 table_meant x st name o n e on = subst (λ l. table_named x.begun l ≡ Some o) (same_some on.name name (sym on.named ∙ e)) on.table
 
 pub updates_tell : UpdatesTell
-updates_tell sh x name target text o n s to c next on idle still stands change adds =
+updates_tell sh x name target text o n s to c next on idle still stands found change adds =
     let u = update_text x.ended o n s text to (path_of x.ended (own_then x) s (length text)) c stands change in
     let m = changed_of sh x.ended x.session c next adds in
     let L = with_reuse m.reuse (with_begin m.begin x.ended) in
@@ -183,12 +218,13 @@ updates_tell sh x name target text o n s to c next on idle still stands change a
       means = record {
         before = L;
         body = body;
-        change = record { table = table_meant x (asked.Update name target text) name o n refl on ∙ ap (λ (z : ℕ). Some z) (sym u.1.obj); own = m.own; one = m.rows ∙ idle.rows };
+        change = record { table = table_meant x (asked.Update name target text) name o n refl on ∙ ap (λ (z : ℕ). Some z) (sym u.1.obj); own = m.own; one = m.rows ∙ idle.rows; event = x.ended; idle = idle; begin = m.begin; reuse = m.reuse; before_is = refl };
         number = u.1.row;
         meant = meant;
         text_is = bytes;
         made = record_of L m.txn m.at c;
         kind = update_kind c.kind body u.0;
+        goes = goes_to sh x (asked.Update name target text) c.kind body c.fills (block_of L m.txn m.at 0 c.fills) (update_goes sh x (asked.Update name target text) x.ended o n s text to (path_of x.ended (own_then x) s (length text)) c found change);
         ends = m.is;
       };
     }
@@ -201,5 +237,5 @@ deletes_tell sh x name target o n s next on idle still adds =
     let meant : target_row x.scripts x.past target ≡ Some n = row_meant x (asked.Delete name target) target o n refl on in
     record {
       made = record { begin = m.begin; reuse = m.reuse; rec = record_of L m.txn m.at c; next_is = m.is; begins = m.session; makes = record { row = record { own = m.own; table = named_on x.ended name o m.reuse m.begin still }; meant = meant } };
-      means = record { before = L; body = body_at L m.txn m.at c; change = record { table = table_meant x (asked.Delete name target) name o n refl on; own = m.own; one = m.rows ∙ idle.rows }; number = refl; meant = meant; ends = m.is };
+      means = record { before = L; body = body_at L m.txn m.at c; change = record { table = table_meant x (asked.Delete name target) name o n refl on; own = m.own; one = m.rows ∙ idle.rows; event = x.ended; idle = idle; begin = m.begin; reuse = m.reuse; before_is = refl }; number = refl; meant = meant; ends = m.is };
     }

@@ -18,22 +18,13 @@ use Rattle.history_text.specs.declared.outcome.Outcome.TheVariants as told
 use Rattle.history_model.specs.declared.history.Kept.TheVariants as kept
 use Rattle.history_model.specs.Spans.{Span, own_then}
 use Rattle.history_model.specs.SoFar.{IsIdle}
-use Rattle.history_model.specs.Causes.{IsOnRow}
+use Rattle.history_model.specs.Causes.{IsOnRow, IsFound}
+pub use Rattle.history_model.specs.RowMeans.{with_begin, with_reuse}
 use Rattle.history_model.specs.Makes.{Makes}
 use Rattle.history_model.specs.Means.{Means}
 use Rattle.history_laws.specs.Working.{later, InsertStands}
 
 -- ---- the records of a change by session w
-
--- perhaps its transaction begins
-abbrev pub with_begin : Option BeginRecord → List Record → List Record
-with_begin None R = R
-with_begin (Some g) R = made.Begin g ∷ R
-
--- perhaps undo is reused
-abbrev pub with_reuse : Option ReuseRecord → List Record → List Record
-with_reuse None R = R
-with_reuse (Some q) R = made.Reuse q ∷ R
 
 -- transaction t begins for session w
 pub record BeginsFor (Q : List Record) (w t : ℕ) (before : List Record) : Type 0 where
@@ -76,13 +67,14 @@ pub record ChangeTells (sh : Shape) (x : Span) (st : Statement) (next : List Rec
 
 abbrev pub InsertsTell : Type 0
 InsertsTell =
-    (sh : Shape) (x : Span) (name label text : List ℕ) (o b : ℕ) (next : List Record) → InsertStands x name o → table_named x.ended name ≡ Some o → AddsChange sh x.ended x.session (insert_of x.ended o b text) next
+    (sh : Shape) (x : Span) (name label text : List ℕ) (o b : ℕ) (next : List Record) → InsertStands x name o → table_named x.ended name ≡ Some o → IsFound sh x (asked.Insert name label text) b
+    → AddsChange sh x.ended x.session (insert_of x.ended o b text) next
     → ChangeTells sh x (asked.Insert name label text) next (told.Inserted (suc (row_count x.ended)))
 
 abbrev pub UpdatesTell : Type 0
 UpdatesTell =
     (sh : Shape) (x : Span) (name : List ℕ) (target : Target) (text : List ℕ) (o n : ℕ) (s : Stand) (to : Option ℕ) (c : Change) (next : List Record) → IsOnRow x (asked.Update name target text) o n → IsIdle x → table_named x.ended name ≡ Some o
-    → StandsAt x.ended n s → change_by x.ended o n s text to (path_of x.ended (own_then x) s (length text)) ≡ Some c → AddsChange sh x.ended x.session c next → ChangeTells sh x (asked.Update name target text) next (told.Updated n)
+    → StandsAt x.ended n s → MatchOption to (Unit {0}) (λ b. IsFound sh x (asked.Update name target text) b) → change_by x.ended o n s text to (path_of x.ended (own_then x) s (length text)) ≡ Some c → AddsChange sh x.ended x.session c next → ChangeTells sh x (asked.Update name target text) next (told.Updated n)
 
 abbrev pub DeletesTell : Type 0
 DeletesTell =

@@ -12,7 +12,7 @@ use Rattle.shrink_laws.specs.declared.skip.Skip.{Skip}
 use Rattle.shrink_laws.specs.Stops.{SkipsStand}
 use Rattle.shrink_laws.specs.Cursor.{CursorStands}
 use Rattle.change_laws.specs.Looks.{WasFound}
-pub use Rattle.history_model.specs.Spans.{now_of}
+pub use Rattle.history_model.specs.Spans.{now_of, later}
 pub use Rattle.history_model.specs.SoFar.{IsIdle}
 use Rattle.script_text.specs.declared.statement.Statement.{Statement}
 use Rattle.script_text.specs.declared.statement.Statement.TheVariants as asked
@@ -30,10 +30,6 @@ use Rattle.history_model.specs.ShrinkMeans.{move_count, StopIs}
 -- a span with one more record
 abbrev pub grown : Span → Record → Span
 grown x r = record { session = x.session; scripts = x.scripts; past = x.past; begun = x.begun; ended = r ∷ x.ended }
-
--- with these at its end
-abbrev pub later : Span → List Record → Span
-later x R = record { session = x.session; scripts = x.scripts; past = x.past; begun = x.begun; ended = R }
 
 -- ---- an insert after movements of the marks
 

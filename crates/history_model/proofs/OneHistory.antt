@@ -136,7 +136,7 @@ told_inserted = (
     order = lit≤ tt;
     grows = lit≤ tt;
     within = lit≤ tt;
-    means = record { before = _; body = _; change = record { table = refl; own = refl; one = refl }; number = refl; text_is = refl; ends = refl };
+    means = record { before = _; body = _; change = record { table = refl; own = refl; one = refl; event = drop 5 nine; idle = record { own = refl; rows = refl; begins = refl }; begin = Some (record { txn = 1; session = 1; entry = 0; control = 0 }); reuse = Some (record { block = 37; sequence = 1 }); before_is = refl }; number = refl; text_is = refl; block = 43; is_found = record { sought = _; seeks = record { obj = 1; table = refl; sought = refl }; hint = None; found_is = refl }; at = refl; ends = refl };
     passes = passes_first small (span_at one_script nine 1 1 2 (drop 2 one_inserted) 7) _ 0 (insert_passes (span_at one_script nine 1 1 2 (drop 2 one_inserted) 7) hello 1 refl (lit< tt));
   },
   (

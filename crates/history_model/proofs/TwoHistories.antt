@@ -200,7 +200,7 @@ told_inserted = (
     order = lit≤ tt;
     grows = lit≤ tt;
     within = lit≤ tt;
-    means = record { before = _; body = _; change = record { table = refl; own = refl; one = refl }; number = refl; text_is = refl; ends = refl };
+    means = record { before = _; body = _; change = record { table = refl; own = refl; one = refl; event = drop 13 two_records; idle = record { own = refl; rows = refl; begins = refl }; begin = Some (record { txn = 1; session = 1; entry = 0; control = 0 }); reuse = Some (record { block = 37; sequence = 1 }); before_is = refl }; number = refl; text_is = refl; block = 43; is_found = record { sought = _; seeks = record { obj = 1; table = refl; sought = refl }; hint = None; found_is = refl }; at = refl; ends = refl };
     passes = passes_first small (span_at two_scripts two_records 1 1 2 (drop 2 one_inserted) 7) _ 0 (insert_passes (span_at two_scripts two_records 1 1 2 (drop 2 one_inserted) 7) text_one 1 refl (lit< tt));
   },
   (
@@ -256,7 +256,7 @@ told_busy = (
           order = lit≤ tt;
           grows = lit≤ tt;
           within = lit≤ tt;
-          means = record { before = _; body = _; change = record { table = refl; own = refl; one = refl }; number = refl; meant = refl; text_is = refl; made = _; kind = refl; ends = refl };
+          means = record { before = _; body = _; change = record { table = refl; own = refl; one = refl; event = drop 8 two_records; idle = record { own = refl; rows = refl; begins = refl }; begin = Some (record { txn = 2; session = 1; entry = 1; control = 0 }); reuse = None; before_is = refl }; number = refl; meant = refl; text_is = refl; made = _; kind = refl; goes = tt; ends = refl };
           passes = passes_first small (span_at two_scripts two_records 1 3 9 (drop 12 two_history) 11) _ 0 (update_passes (span_at two_scripts two_records 1 3 9 (drop 12 two_history) 11) text_two 1 1 refl refl (lit< tt));
         },
         (
@@ -322,7 +322,7 @@ told = (
             order = lit≤ tt;
             grows = lit≤ tt;
             within = lit≤ tt;
-            means = record { before = _; body = _; change = record { table = refl; own = refl; one = refl }; number = refl; meant = refl; text_is = refl; made = _; kind = refl; ends = refl };
+            means = record { before = _; body = _; change = record { table = refl; own = refl; one = refl; event = drop 4 two_records; idle = record { own = refl; rows = refl; begins = refl }; begin = Some (record { txn = 3; session = 2; entry = 2; control = 0 }); reuse = None; before_is = refl }; number = refl; meant = refl; text_is = refl; made = _; kind = refl; goes = tt; ends = refl };
             passes = passes_first small (span_at two_scripts two_records 2 1 13 (drop 6 two_history) 15) _ 0 (update_passes (span_at two_scripts two_records 2 1 13 (drop 6 two_history) 15) text_three 1 1 refl refl (lit< tt));
           },
           (

@@ -41,8 +41,8 @@ pub record RefusalMeans (sh : Shape) (x : Span) (st : Statement) (refusal : Refu
 abbrev pub Means : Shape → Span → Option Statement → Outcome → Kept → Type 0
 Means sh x (Some (asked.Table name pctfree)) (told.Table n) kept.Nothing = (n ≡ name) × TableMeans x name pctfree
 Means sh x (Some (asked.Movement name on)) (told.Movement n o) kept.Nothing = (n ≡ name) × (o ≡ on) × MovementMeans x name on
-Means sh x (Some (asked.Insert name label text)) (told.Inserted row) kept.Nothing = InsertMeans x name text row
-Means sh x (Some (asked.Update name target text)) (told.Updated row) kept.Nothing = UpdateMeans x name target text row
+Means sh x (Some (asked.Insert name label text)) (told.Inserted row) kept.Nothing = InsertMeans sh x name label text row
+Means sh x (Some (asked.Update name target text)) (told.Updated row) kept.Nothing = UpdateMeans sh x name target text row
 Means sh x (Some (asked.Delete name target)) (told.Deleted row) kept.Nothing = DeleteMeans x name target row
 Means sh x (Some asked.Commit) (told.Committed number) kept.Nothing = CommitMeans x number
 Means sh x (Some asked.Commit) told.NothingToCommit kept.Nothing = NothingMeans x

@@ -27,6 +27,10 @@ span_of scripts R w task n = record { session = w; scripts = scripts; past = tas
 abbrev pub now_of : List (List Statement) → List Record → ℕ → Task → Span
 now_of scripts R w task = record { session = w; scripts = scripts; past = task.past; begun = prefix R task.begins; ended = R }
 
+-- with another end
+abbrev pub later : Span → List Record → Span
+later x R = record { session = x.session; scripts = x.scripts; past = x.past; begun = x.begun; ended = R }
+
 -- the session's active transaction at its end
 abbrev pub own_then : Span → Option ℕ
 own_then x = own_of x.ended x.session

@@ -23,14 +23,14 @@ use Rattle.history_model.specs.declared.history.HistoryItem.{HistoryItem}
 use Rattle.history_model.specs.History.{Task}
 use Rattle.history_model.specs.Spans.{Span}
 use Rattle.history_model.specs.Released.{Gone, gone_by, or_else, first_gone}
-use Rattle.history_model.specs.Stopping.{AreSkippedAt}
+use Rattle.history_model.specs.Stopping.{AreSkippedAt, AreMovedAt}
 use Rattle.history_model.specs.ShrinkMeans.{move_count, StopIs}
 use Rattle.redo_laws.specs.Scan.{scan_list}
 use Rattle.history_laws.specs.Events.{Goes, goes_none, goes_one}
 use Rattle.history_laws.specs.Working.{now_of, grown, IsIdle, InsertStands, FoundAt, RowWork, HasStarted, PlaceStands, RowStands, BackStands, OpenScan, ScanStands, marked_by, marked_since, MoveWork, ShrinkStands, StoppedWork, StoppedStands, Work, Inserting, OnRow, TakingBack, Scanning, Shrinking, Lowering, WorkStands, work_after, work_since}
 use Rattle.history_laws.specs.Others.{Spares, SparesWork, RecordsLeaveWork, EventsLeaveWork, EventsLeaveTransactions}
 use Rattle.history_laws.proofs.LegalLaw.{adds_of}
-use Rattle.history_laws.proofs.Stopping.{skipped_at_more, unlowered_more}
+use Rattle.history_laws.proofs.Stopping.{skipped_at_more, moved_at_more, unlowered_more}
 use Rattle.history_laws.proofs.Marks.{or_none, or_assoc, first_more, none_since}
 
 -- names
@@ -145,6 +145,7 @@ shrink_more sh x r name k a l p h = record {
   cursor = cursor_stays sh x.begun x.ended k.obj k.skips k.cursor r (no_lower r k.obj p) h.cursor;
   skipped = skips_are_kept x.begun x.ended k.skips r h.skipped;
   skipped_at = skipped_at_more sh x.begun x.ended r k.obj k.skips h.skipped h.skipped_at;
+  moved_at = moved_at_more sh x.begun k.obj k.skips x.ended r p h.moved_at;
   unlowered = unlowered_more x r k.obj h.cursor.longer (no_lower r k.obj p) h.unlowered;
   moves = move_spared x.ended r k.obj p ∙ h.moves;
 }
@@ -162,6 +163,7 @@ stopped_more sh x r name k a l p h =
       none_after = move_spared x.ended r k.obj p ∙ (h.none_after ∙ ap (λ (z : List Record). move_count z k.obj) at);
       skipped = subst (λ (z : List Record). SkipsStand x.begun z k.skips) at h.skipped;
       skipped_at = subst (λ (z : List Record). AreSkippedAt sh x.begun z k.obj k.skips) at h.skipped_at;
+      moved_at = subst (λ (z : List Record). AreMovedAt sh x.begun k.obj k.skips z) at h.moved_at;
       unlowered = unlowered_more x r k.obj (le_trans h.from h.to) (no_lower r k.obj p) h.unlowered;
       stops = subst (λ (z : List Record). StopIs sh x.begun z k.obj k.skips k.stop) at h.stops;
     }

@@ -6,7 +6,7 @@ use Rattle.redo_model.specs.Model.{prefix, Extent, extents_of, extent_at, is_vac
 use Rattle.redo_laws.proofs.lists.Prefixes.{prefix_all, prefix_more}
 use Rattle.shrink_laws.specs.Stops.{SkipsStand}
 use Rattle.history_model.specs.Spans.{Span}
-use Rattle.history_model.specs.Stopping.{AreSkippedAt}
+use Rattle.history_model.specs.Stopping.{AreSkippedAt, AreMovedAt}
 use Rattle.history_model.specs.ShrinkMeans.{move_count, StopIs, MovesMean, LastStays}
 use Rattle.history_laws.specs.Working.{StoppedWork, StoppedStands}
 use Rattle.history_laws.specs.Shrinks.{ShrinksStop, CompactsMean, LowersMean, StaysMean, LastExtentsStay}
@@ -24,12 +24,13 @@ shrinks_stop sh x name k stop s h =
       none_after = ap (λ (z : List Record). move_count z k.obj) now;
       skipped = subst (λ (z : List Record). SkipsStand x.begun z k.skips) now h.skipped;
       skipped_at = subst (λ (z : List Record). AreSkippedAt sh x.begun z k.obj k.skips) now h.skipped_at;
+      moved_at = subst (λ (z : List Record). AreMovedAt sh x.begun k.obj k.skips z) now h.moved_at;
       unlowered = h.unlowered;
       stops = subst (λ (z : List Record). StopIs sh x.begun z k.obj k.skips stop) now s;
     }
 
 moves_mean : (sh : Shape) (x : Span) (name : List ℕ) (k : StoppedWork) → StoppedStands sh x name k → MovesMean sh x name k.moved (length k.skips) k.stop k.skips k.stopped k.obj
-moves_mean sh x name k h = record { table = h.table; from = h.from; to = h.to; moves = h.moves; none_after = h.none_after; count = refl; skipped_so = h.skipped; skipped_at = h.skipped_at; stops = h.stops }
+moves_mean sh x name k h = record { table = h.table; from = h.from; to = h.to; moves = h.moves; none_after = h.none_after; count = refl; skipped_so = h.skipped; skipped_at = h.skipped_at; moved_at = h.moved_at; stops = h.stops }
 
 pub compacts_mean : CompactsMean
 compacts_mean sh x name k h = record { obj = k.obj; moves = moves_mean sh x name k h; unlowered = h.unlowered }
@@ -48,6 +49,7 @@ lowers_mean sh x name k l e h =
         count = refl;
         skipped_so = subst (λ (z : List Record). SkipsStand x.begun z k.skips) at h.skipped;
         skipped_at = subst (λ (z : List Record). AreSkippedAt sh x.begun z k.obj k.skips) at h.skipped_at;
+        moved_at = subst (λ (z : List Record). AreMovedAt sh x.begun k.obj k.skips z) at h.moved_at;
         stops = subst (λ (z : List Record). StopIs sh x.begun z k.obj k.skips k.stop) at h.stops;
       };
       lowered = inl (record { before = x.ended; lower = l; table = e; count = refl; ends = refl; only = h.unlowered });

@@ -21,7 +21,7 @@ use Rattle.history_text.specs.declared.outcome.Stop.{Stop}
 use Rattle.history_model.specs.declared.limit.TheConstants.{MOST_STARTS}
 use Rattle.history_model.specs.Spans.{Span}
 use Rattle.history_model.specs.SoFar.{IsUnlowered}
-use Rattle.history_model.specs.Stopping.{AreSkippedAt}
+use Rattle.history_model.specs.Stopping.{AreSkippedAt, AreMovedAt}
 use Rattle.history_model.specs.Released.{Gone, gone_by, or_else, first_gone}
 use Rattle.history_model.specs.Causes.{IsOnRow}
 use Rattle.history_model.specs.TableMeans.{row_out}
@@ -129,6 +129,7 @@ pub record ShrinkStands (sh : Shape) (x : Span) (name : List ℕ) (k : MoveWork)
   pub cursor : CursorStands sh x.begun x.ended k.obj k.skips k.cursor
   pub skipped : SkipsStand x.begun x.ended k.skips
   pub skipped_at : AreSkippedAt sh x.begun x.ended k.obj k.skips
+  pub moved_at : AreMovedAt sh x.begun k.obj k.skips x.ended
   pub unlowered : IsUnlowered x k.obj
   pub moves : move_count x.ended k.obj ≡ move_count x.begun k.obj + k.moved
 
@@ -150,6 +151,7 @@ pub record StoppedStands (sh : Shape) (x : Span) (name : List ℕ) (k : StoppedW
   pub none_after : move_count x.ended k.obj ≡ move_count (prefix x.ended k.stopped) k.obj
   pub skipped : SkipsStand x.begun (prefix x.ended k.stopped) k.skips
   pub skipped_at : AreSkippedAt sh x.begun (prefix x.ended k.stopped) k.obj k.skips
+  pub moved_at : AreMovedAt sh x.begun k.obj k.skips (prefix x.ended k.stopped)
   pub unlowered : IsUnlowered x k.obj
   pub stops : StopIs sh x.begun (prefix x.ended k.stopped) k.obj k.skips k.stop
 

@@ -31,7 +31,7 @@ use Rattle.history_model.specs.declared.limit.TheConstants.{MOST_STARTS, NEW_WOR
 use Rattle.history_model.specs.History.{Task, under_way, statement_of, bound}
 use Rattle.history_model.specs.Spans.{Span, own_then, target_row, table_asked, target_asked}
 use Rattle.history_model.specs.SoFar.{IsUnlowered}
-use Rattle.history_model.specs.Stopping.{HasCome, MayGo, AreSkippedAt}
+use Rattle.history_model.specs.Stopping.{HasCome, MayGo, AreSkippedAt, AreMovedAt}
 use Rattle.history_model.specs.Released.{first_gone}
 
 -- ---- as the statement began
@@ -275,6 +275,7 @@ pub record MoveNeeds (sh : Shape) (x : Span) (name : List ℕ) (need : ℕ) : Ty
   pub skips : List Skip
   pub skipped_so : SkipsStand x.begun x.ended skips
   pub skipped_at : AreSkippedAt sh x.begun x.ended obj skips
+  pub moved_at : AreMovedAt sh x.begun obj skips x.ended
   pub place : ℕ
   pub block : ℕ
   pub slot : ℕ

@@ -11,7 +11,7 @@ use Rattle.history_text.specs.declared.outcome.Stop.{Stop}
 use Rattle.history_text.specs.declared.outcome.Stop.TheVariants.{NoFit, Bottom}
 use Rattle.history_model.specs.Spans.{Span}
 use Rattle.history_model.specs.SoFar.{IsUnlowered}
-use Rattle.history_model.specs.Stopping.{FullPassed, NothingFits, AreSkippedAt}
+use Rattle.history_model.specs.Stopping.{FullPassed, NothingFits, AreSkippedAt, AreMovedAt}
 
 abbrev pub moves_after : Record → ℕ → ℕ → ℕ
 moves_after (Move m) o n = cond (eqb m.obj o) (suc n) n
@@ -27,8 +27,8 @@ abbrev pub StopIs : Shape → List Record → List Record → ℕ → List Skip 
 StopIs sh B S o skips (NoFit at) = NothingFits sh B S o skips at.dba at.slot
 StopIs sh B S o skips Bottom = FullPassed sh B S o skips 0
 
--- A shrink: the number of Moves of the table since it began, none of them after it stopped; the number of slots that it skipped,
--- each of which held a row with that active writer as the shrink came to it; where it stopped.
+-- A shrink: the number of Moves of the table since it began, none of them after it stopped, each of a row to which it had come;
+-- the number of slots that it skipped, each of which held a row with that active writer as it came to it; where it stopped.
 pub record MovesMean (sh : Shape) (x : Span) (name : List ℕ) (moved skipped : ℕ) (stop : Stop) (skips : List Skip) (stopped obj : ℕ) : Type 0 where
   pub table : table_named x.begun name ≡ Some obj
   pub from : length x.begun ≤ stopped
@@ -38,6 +38,7 @@ pub record MovesMean (sh : Shape) (x : Span) (name : List ℕ) (moved skipped : 
   pub count : skipped ≡ length skips
   pub skipped_so : SkipsStand x.begun (prefix x.ended stopped) skips
   pub skipped_at : AreSkippedAt sh x.begun (prefix x.ended stopped) obj skips
+  pub moved_at : AreMovedAt sh x.begun obj skips (prefix x.ended stopped)
   pub stops : StopIs sh x.begun (prefix x.ended stopped) obj skips stop
 
 -- one that only compacts: no Lower of the table is among the records

@@ -14,3 +14,4 @@ pub mod Ways
 pub mod Changing
 pub mod Acting
 pub mod OneEvent
+pub mod Types

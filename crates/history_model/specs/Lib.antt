@@ -14,3 +14,4 @@ pub mod Makes
 pub mod Legal
 pub mod Running
 pub mod Worked
+pub mod Types

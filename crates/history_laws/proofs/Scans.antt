@@ -77,7 +77,7 @@ pub named_table : (sh : Shape) (R : List Record) (name : List ℕ) (o : ℕ) →
 named_table sh R name o h e = let q = named_within sh R name o h e in record { least = q.0; most = q.1 }
 
 -- a block of the list is a row block
-listed : (sh : Shape) (B : List Record) (o b : ℕ) → is_in b (scan_list sh B o) ≡ true → IsRowBlock sh B o b
+pub listed : (sh : Shape) (B : List Record) (o b : ℕ) → is_in b (scan_list sh B o) ≡ true → IsRowBlock sh B o b
 listed sh B o b h = let q = in_filter (λ c. is_formatted sh B c) b (under_high sh B o) h in record { here = contains_in (under_high sh B o) b q.0; formatted = q.1 }
 
 -- the records as a scan began were allowed too

@@ -14,4 +14,5 @@ pub mod Ways
 pub mod Changing
 pub mod Acting
 pub mod OneEvent
+pub mod Tests
 pub mod Types

@@ -15,3 +15,4 @@ pub use Rattle.history_laws.specs.Ways.{WorksGoOn, SessionRuns, SessionsRun, Run
 pub use Rattle.history_laws.specs.Changing.{BeginsFor, IsOwnTxn, IsBegunFor, AddsChange, MakesChange, ChangeTells, InsertsTell, UpdatesTell, DeletesTell}
 pub use Rattle.history_laws.specs.Acting.{InsertsMove, UpdatesMove, IsRowWork, MarksLeaveWork, begun_row, RowsBegin, found_row, RowsAreFound, BacksBegin, TakesBack, BackGoes, BacksGo, BackEnds, BacksEnd}
 pub use Rattle.history_laws.specs.OneEvent.{RecordTells, TableTells, TablesTell, MovementsTell, CommitsTell, FixesTell, FixedTell}
+pub use Rattle.history_laws.specs.Tests.{first_of, absent, test_table, taken, test_name, too_many, test_count, unmoved, test_movement, misplaced, test_block, opened, test_own, shrunk, test_busy, full_log, test_log, bad_value, test_value, unbound, test_label, first_cause, IsShrunk, AsksBusy, FirstTells, FirstCausesTell}

@@ -14,6 +14,7 @@ ghost use Rattle.history_laws.specs.ScanRefusals.{LostAreRefused, MarkedAreRefus
 ghost use Rattle.history_laws.specs.Shrinks.{CompactsMean, CursorsCome, CursorsPass, CursorsStop, LastExtentsStay, LowersMean, ShrinksAreSpent, ShrinksBegin, ShrinksMove, ShrinksSkip, ShrinksStop, StaysMean, StopsAreRight};
 ghost use Rattle.history_laws.specs.Starts.{StartsEnd, StartsGoOn};
 ghost use Rattle.history_laws.specs.Telling.{EntriesKeep, OthersAreTold, OwnIsTold, SpansBegin, StartsKeep};
+ghost use Rattle.history_laws.specs.Tests.{FirstCausesTell};
 ghost use Rattle.history_laws.specs.Ways.{EventsKeep, RunsAreLegal, RunsEnd, SessionsRun, WorksGoOn};
 ghost use Rattle.history_laws.specs.Scans.{EmptyScansMean, MarksMean, ScansMean, ScansOpen, ScansRead};
 
@@ -416,4 +417,9 @@ pub fn moves_belong()
 /// A run goes on where each of its sessions does.
 pub fn sessions_run()
     ensures { SessionsRun }
+{}
+
+/// The first test that a statement fails as it begins is its refusal; one that fails none goes on.
+pub fn first_causes_tell()
+    ensures { FirstCausesTell }
 {}

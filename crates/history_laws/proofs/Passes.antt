@@ -23,41 +23,39 @@ use Rattle.history_model.specs.Causes.{IsTableThere, IsTooManyTables, IsMovement
 use Rattle.history_model.specs.Passing.{FirstPass}
 use Rattle.history_model.specs.Means.{Keeps, blocks_read}
 use Rattle.history_model.proofs.Passing.{passes_first}
-use Rattle.history_laws.specs.Working.{now_of}
+use Rattle.history_laws.specs.Working.{now_of, later}
 use Rattle.history_laws.proofs.Owned.{none_some}
-use Rattle.history_laws.specs.Passes.{FirstPassStays, AcceptedPasses, FirstIsRefused}
+use Rattle.history_laws.specs.Passes.{FirstPassStays, FirstPassLater, AcceptedPasses, FirstIsRefused}
 
--- the same statement with other records at its end
-abbrev with_end : Span → List Record → Span
-with_end x E = record { session = x.session; scripts = x.scripts; past = x.past; begun = x.begun; ended = E }
+-- with other records at its end
 
-there_before : (x : Span) (E : List Record) (st : Statement) → IsTableThere (with_end x E) st → IsTableThere x st
+there_before : (x : Span) (E : List Record) (st : Statement) → IsTableThere (later x E) st → IsTableThere x st
 there_before x E (asked.Table name pctfree) h = h
 there_before x E st h = absurd h
 
-many_before : (x : Span) (E : List Record) (st : Statement) → IsTooManyTables (with_end x E) st → IsTooManyTables x st
+many_before : (x : Span) (E : List Record) (st : Statement) → IsTooManyTables (later x E) st → IsTooManyTables x st
 many_before x E (asked.Table name pctfree) h = h
 many_before x E st h = absurd h
 
-movement_before : (x : Span) (E : List Record) (st : Statement) → IsMovementOff (with_end x E) st → IsMovementOff x st
+movement_before : (x : Span) (E : List Record) (st : Statement) → IsMovementOff (later x E) st → IsMovementOff x st
 movement_before x E (asked.Shrink name compact) h = h
 movement_before x E st h = absurd h
 
-open_before : (x : Span) (E : List Record) (st : Statement) → IsTransactionOpen (with_end x E) st → IsTransactionOpen x st
+open_before : (x : Span) (E : List Record) (st : Statement) → IsTransactionOpen (later x E) st → IsTransactionOpen x st
 open_before x E (asked.Table name pctfree) h = h
 open_before x E (asked.Movement name on) h = h
 open_before x E (asked.Shrink name compact) h = h
 open_before x E st h = absurd h
 
-shrunk_before : (x : Span) (E : List Record) (name : List ℕ) (v : ℕ) → IsShrunkBy (with_end x E) name v → IsShrunkBy x name v
+shrunk_before : (x : Span) (E : List Record) (name : List ℕ) (v : ℕ) → IsShrunkBy (later x E) name v → IsShrunkBy x name v
 shrunk_before x E name v h = record { other = h.other; task = h.task; under = h.under; its_name = h.its_name; compact = h.compact; statement = h.statement; obj = h.obj; its_table = h.its_table; table = h.table }
 
-busy_before : (x : Span) (E : List Record) (st : Statement) (v : ℕ) → IsShrinkBusy (with_end x E) st v → IsShrinkBusy x st v
+busy_before : (x : Span) (E : List Record) (st : Statement) (v : ℕ) → IsShrinkBusy (later x E) st v → IsShrinkBusy x st v
 busy_before x E (asked.Movement name on) v h = shrunk_before x E name v h
 busy_before x E (asked.Shrink name compact) v h = shrunk_before x E name v h
 busy_before x E st v h = absurd h
 
-log_before : (x : Span) (E : List Record) (st : Statement) → IsLogFull (with_end x E) st → IsLogFull x st
+log_before : (x : Span) (E : List Record) (st : Statement) → IsLogFull (later x E) st → IsLogFull x st
 log_before x E asked.Commit h = h
 log_before x E asked.Rollback h = h
 log_before x E (asked.Scan name) h = h
@@ -65,11 +63,11 @@ log_before x E (asked.Usage name) h = h
 log_before x E asked.Checkpoint h = h
 log_before x E st h = h
 
-block_before : (sh : Shape) (x : Span) (E : List Record) (st : Statement) (b : ℕ) → IsNotDataBlock sh (with_end x E) st b → IsNotDataBlock sh x st b
+block_before : (sh : Shape) (x : Span) (E : List Record) (st : Statement) (b : ℕ) → IsNotDataBlock sh (later x E) st b → IsNotDataBlock sh x st b
 block_before sh x E (asked.Fix name block value) b h = h
 block_before sh x E st b h = absurd h
 
-first_later : (sh : Shape) (x : Span) (E : List Record) (st : Statement) → FirstPass sh x st → FirstPass sh (with_end x E) st
+pub first_later : (sh : Shape) (x : Span) (E : List Record) (st : Statement) → FirstPass sh x st → FirstPass sh (later x E) st
 first_later sh x E st f = record {
   table = f.table;
   new_name = λ h. f.new_name (there_before x E st h);
@@ -82,6 +80,9 @@ first_later sh x E st f = record {
   value = f.value;
   label = f.label;
 }
+
+pub first_pass_later : FirstPassLater
+first_pass_later sh x R st f = first_later sh x R st f
 
 pub first_pass_stays : FirstPassStays
 first_pass_stays sh scripts Q R w task st e l f =

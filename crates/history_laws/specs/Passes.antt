@@ -15,13 +15,17 @@ use Rattle.history_model.specs.Order.{rank, is_first_tested}
 use Rattle.history_model.specs.Causes.{Cause}
 use Rattle.history_model.specs.Passing.{FirstPass}
 use Rattle.history_model.specs.Means.{PassesOver}
-use Rattle.history_laws.specs.Working.{now_of}
+use Rattle.history_laws.specs.Working.{now_of, later}
 use Rattle.history_laws.specs.Refusals.{IsRefusedSo}
 
 -- whatever is added
 abbrev pub FirstPassStays : Type 0
 FirstPassStays =
     (sh : Shape) (scripts : List (List Statement)) (Q R : List Record) (w : ℕ) (task : Task) (st : Statement) → Extends Q R → task.begins ≤ length Q → FirstPass sh (now_of scripts Q w task) st → FirstPass sh (now_of scripts R w task) st
+
+-- the same of any span: the first causes speak of its beginning
+abbrev pub FirstPassLater : Type 0
+FirstPassLater = (sh : Shape) (x : Span) (R : List Record) (st : Statement) → FirstPass sh x st → FirstPass sh (later x R) st
 
 abbrev pub is_refused : Outcome → Bool
 is_refused (told.Refused refusal) = true

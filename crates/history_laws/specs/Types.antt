@@ -8,7 +8,7 @@ pub use Rattle.history_laws.specs.Starts.{noted, StartsGoOn, StartsEnd}
 pub use Rattle.history_laws.specs.Refusals.{IsRefusedSo, IsPending, IsThere, RowPass, EntryPass, BlockPass, NoRowIsRefused, BusyIsRefused, AgainIsRefused, NoSlotIsRefused, NoSpaceIsRefused, MaxExtentsIsRefused, UndoFullIsRefused, NoExtentIsRefused, InsertsPass, WritesPass, EntriesPass, FoundPass}
 pub use Rattle.history_laws.specs.Shrinks.{begun_work, ShrinksBegin, skipped_work, ShrinksSkip, moved_work, ShrinksMove, CursorsCome, CursorsStop, CursorsPass, StopIsRight, StopsAreRight, StepSpent, ShrinksAreSpent, stopped_now, ShrinksStop, CompactsMean, LowersMean, StaysMean, LastExtentsStay}
 pub use Rattle.history_laws.specs.Telling.{start_now, entry_now, MayStart, StartsKeep, MayEnd, EntriesKeep, SpansBegin, OwnTold, OtherTold, OwnIsTold, OthersAreTold}
-pub use Rattle.history_laws.specs.Passes.{FirstPassStays, is_refused, AcceptedPasses, FirstIsRefused}
+pub use Rattle.history_laws.specs.Passes.{FirstPassStays, FirstPassLater, is_refused, AcceptedPasses, FirstIsRefused}
 pub use Rattle.history_laws.specs.Answered.{BusyAnswers, TakenAnswers, NeedsSeek, SpentUpdates, SpentDeletes}
 pub use Rattle.history_laws.specs.ScanRefusals.{IsScanRefused, MarkedAreRefused, LostAreRefused, UnknownAreRefused}
 pub use Rattle.history_laws.specs.Ways.{WorksGoOn, SessionRuns, SessionsRun, RunsEnd, Starts, starts_none, starts_one, KeepsRead, Ends, ends_none, ends_one, IsEvent, IsRun, run_none, run_event, EventKeeps, EventsKeep, RunsAreLegal}

@@ -8,7 +8,7 @@ ghost use Rattle.history_laws.specs.Changing.{DeletesTell, InsertsTell, UpdatesT
 ghost use Rattle.history_laws.specs.Keeping.{EntriesAreLegal, EntriesStay, MovesBelong, OwnersAreOne, RecordsAreLegal, RecordsBelong, StartsAreLegal, WaysAreKnown};
 ghost use Rattle.history_laws.specs.OneEvent.{CommitsTell, FixedTell, FixesTell, MovementsTell, TablesTell};
 ghost use Rattle.history_laws.specs.Others.{EventsLeaveTransactions, EventsLeaveWork, RecordsLeaveWork};
-ghost use Rattle.history_laws.specs.Passes.{AcceptedPasses, FirstIsRefused, FirstPassStays};
+ghost use Rattle.history_laws.specs.Passes.{AcceptedPasses, FirstIsRefused, FirstPassLater, FirstPassStays};
 ghost use Rattle.history_laws.specs.Refusals.{AgainIsRefused, BusyIsRefused, EntriesPass, FoundPass, InsertsPass, MaxExtentsIsRefused, NoExtentIsRefused, NoRowIsRefused, NoSlotIsRefused, NoSpaceIsRefused, UndoFullIsRefused, WritesPass};
 ghost use Rattle.history_laws.specs.ScanRefusals.{LostAreRefused, MarkedAreRefused, UnknownAreRefused};
 ghost use Rattle.history_laws.specs.Shrinks.{CompactsMean, CursorsCome, CursorsPass, CursorsStop, LastExtentsStay, LowersMean, ShrinksAreSpent, ShrinksBegin, ShrinksMove, ShrinksSkip, ShrinksStop, StaysMean, StopsAreRight};
@@ -422,4 +422,9 @@ pub fn sessions_run()
 /// The first test that a statement fails as it begins is its refusal; one that fails none goes on.
 pub fn first_causes_tell()
     ensures { FirstCausesTell }
+{}
+
+/// That none applies is said of a statement's beginning, whatever its end.
+pub fn first_pass_later()
+    ensures { FirstPassLater }
 {}

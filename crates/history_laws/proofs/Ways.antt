@@ -13,7 +13,7 @@ use Rattle.history_model.specs.History.{under_way, AreInTime}
 use Rattle.history_model.specs.SoFar.{IsUnlowered}
 use Rattle.history_model.specs.Legal.{made_none, IsLegal}
 use Rattle.history_laws.specs.Working.{Work, Inserting, OnRow, TakingBack, Scanning, Shrinking, Lowering}
-use Rattle.history_laws.specs.Ways.{WorksGoOn, SessionsRun, RunsEnd, Starts, starts_none, starts_one, Ends, ends_none, ends_one, run_none, run_event, IsRun, EventKeeps, EventsKeep, RunsAreLegal}
+use Rattle.history_laws.specs.Ways.{WorksGoOn, SessionsRun, RunsEnd, Starts, starts_none, starts_one, Ends, ends_none, ends_one, run_none, run_event, IsRun, EventKeeps, EventsKeep, RunsAreLegal, HistoriesBegin, HistoriesGoOn}
 use Rattle.history_laws.proofs.Owned.{none_some, same_some, ways_are_known}
 use Rattle.history_laws.proofs.LegalLaw.{records_are_legal}
 use Rattle.history_laws.proofs.Telling.{starts_keep, entries_keep}
@@ -88,3 +88,22 @@ run_legal sh scripts R0 first S V m a (run_event w was before now Q R T U r l b 
 
 pub runs_are_legal : RunsAreLegal
 runs_are_legal sh scripts R0 R T first now a r = run_legal sh scripts R0 first R T now a r
+
+-- a world's history
+
+pub histories_begin : HistoriesBegin
+histories_begin sh scripts R0 first a none = record {
+  run = run_none;
+  running = record {
+    legal = record { lawful = a; made = made_none; told = tt };
+    in_time = tt;
+    under = λ w task u. none_some task _ u;
+    whole = λ w u. ap (backed_of R0) (none w);
+    known = λ w t o. none_some t _ (sym (none w) ∙ o);
+  };
+}
+
+pub histories_go_on : HistoriesGoOn
+histories_go_on sh scripts w was first before now R0 Q R T U a l e h each known =
+    let k = events_keep sh scripts w was before now R0 Q R T U a l e h.running.legal h.running.in_time in
+    record { run = run_event w was before now Q R T U h.run l a e; running = sessions_run sh scripts R0 R U now k.legal k.in_time each known }

@@ -87,3 +87,20 @@ EventsKeep =
 -- so a run's history is legal
 abbrev pub RunsAreLegal : Type 0
 RunsAreLegal = (sh : Shape) (scripts : List (List Statement)) (R0 R : List Record) (T : List HistoryItem) (first now : ℕ) → IsLawful sh R0 → IsRun sh scripts R0 first R T now → EventKeeps sh scripts R0 R T now
+
+-- ---- what a world of sessions promises after each event
+
+-- the history is that of its events, and between two of them it is running
+pub record IsWorldHistory (sh : Shape) (scripts : List (List Statement)) (R0 : List Record) (first : ℕ) (R : List Record) (T : List HistoryItem) (now : ℕ) : Type 0 where
+  pub run : IsRun sh scripts R0 first R T now
+  pub running : IsRunning sh scripts R0 R T now
+
+-- it begins with nothing told, where no transaction is active
+abbrev pub HistoriesBegin : Type 0
+HistoriesBegin = (sh : Shape) (scripts : List (List Statement)) (R0 : List Record) (first : ℕ) → IsLawful sh R0 → ((w : ℕ) → own_of R0 w ≡ None) → IsWorldHistory sh scripts R0 first R0 [] first
+
+-- an event that leaves each session between events keeps it
+abbrev pub HistoriesGoOn : Type 0
+HistoriesGoOn =
+    (sh : Shape) (scripts : List (List Statement)) (w : ℕ) (was : Option Work) (first before now : ℕ) (R0 Q R : List Record) (T U : List HistoryItem) → IsLawful sh R → before ≤ now → IsEvent sh scripts w was now Q T R U → IsWorldHistory sh scripts R0 first Q T before
+    → ((v : ℕ) → IsSession scripts v → SessionRuns sh scripts R U v) → ((v t : ℕ) → own_of R v ≡ Some t → IsSession scripts v) → IsWorldHistory sh scripts R0 first R U now

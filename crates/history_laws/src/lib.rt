@@ -15,7 +15,7 @@ ghost use Rattle.history_laws.specs.Shrinks.{CompactsMean, CursorsCome, CursorsP
 ghost use Rattle.history_laws.specs.Starts.{StartsEnd, StartsGoOn};
 ghost use Rattle.history_laws.specs.Telling.{EntriesKeep, OthersAreTold, OwnIsTold, SpansBegin, StartsKeep};
 ghost use Rattle.history_laws.specs.Tests.{FirstCausesTell};
-ghost use Rattle.history_laws.specs.Ways.{EventsKeep, RunsAreLegal, RunsEnd, SessionsRun, WorksGoOn};
+ghost use Rattle.history_laws.specs.Ways.{EventsKeep, HistoriesBegin, HistoriesGoOn, RunsAreLegal, RunsEnd, SessionsRun, WorksGoOn};
 ghost use Rattle.history_laws.specs.Scans.{EmptyScansMean, MarksMean, ScansMean, ScansOpen, ScansRead};
 
 /// What each start and each entry says of some records it says of every list that begins with them, whatever was added: so an
@@ -427,4 +427,14 @@ pub fn first_causes_tell()
 /// That none applies is said of a statement's beginning, whatever its end.
 pub fn first_pass_later()
     ensures { FirstPassLater }
+{}
+
+/// A world of sessions begins with a history of nothing.
+pub fn histories_begin()
+    ensures { HistoriesBegin }
+{}
+
+/// Each of its events keeps what it promises of its history.
+pub fn histories_go_on()
+    ensures { HistoriesGoOn }
 {}

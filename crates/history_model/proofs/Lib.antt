@@ -3,3 +3,4 @@ pub mod Targets
 pub mod OneHistory
 mod TwoHistories
 mod RefusedHistories
+mod ShrunkHistories

@@ -14,4 +14,5 @@ pub mod Makes
 pub mod Legal
 pub mod Running
 pub mod Worked
+pub mod WorkedShrink
 pub mod Types

@@ -9,6 +9,7 @@ mod history;
 mod limit;
 
 ghost use Rattle.history_model.specs.Worked.{HistoriesAreLegal, HistoriesAreRefused};
+ghost use Rattle.history_model.specs.WorkedShrink.{ShrinksAreShown};
 
 pub use history::{HistoryItem, Kept, Settled, Start};
 pub use limit::{MOST_STARTS, NEW_WORK_RECORDS};
@@ -23,4 +24,10 @@ pub fn small_histories_are_legal()
 /// by a compaction.
 pub fn wrong_histories_are_refused()
     ensures { HistoriesAreRefused }
+{}
+
+/// A shrink that stops at a row that fits nowhere, and one that releases an extent; a lower row named, the bottom told, and a row
+/// moved past a greater slot are none.
+pub fn shrinks_are_shown()
+    ensures { ShrinksAreShown }
 {}

@@ -4,3 +4,4 @@ pub mod OneHistory
 mod TwoHistories
 mod RefusedHistories
 mod ShrunkHistories
+mod MigratedHistories

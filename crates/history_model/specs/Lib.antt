@@ -15,4 +15,5 @@ pub mod Legal
 pub mod Running
 pub mod Worked
 pub mod WorkedShrink
+pub mod WorkedMigration
 pub mod Types

@@ -9,6 +9,7 @@ mod history;
 mod limit;
 
 ghost use Rattle.history_model.specs.Worked.{HistoriesAreLegal, HistoriesAreRefused};
+ghost use Rattle.history_model.specs.WorkedMigration.{MigrationsAreShown};
 ghost use Rattle.history_model.specs.WorkedShrink.{ShrinksAreShown};
 
 pub use history::{HistoryItem, Kept, Settled, Start};
@@ -30,4 +31,9 @@ pub fn wrong_histories_are_refused()
 /// moved past a greater slot are none.
 pub fn shrinks_are_shown()
     ensures { ShrinksAreShown }
+{}
+
+/// An update that migrates its row, and the movement of the marks before it.
+pub fn migrations_are_shown()
+    ensures { MigrationsAreShown }
 {}

@@ -1,9 +1,9 @@
 -- What is drafted from pages is what the list drafts.
-use Rattle.std.proofs.Common.{◌≡◌, ℕ, zero, suc, ◌+◌, ◌<◌, ◌≤◌, min, Bool, true, false, cond, ltb, List, [], ◌∷◌, ◌++◌, length, Option, Some, None, refl, sym, ◌∙◌, ap, ap₂, subst, arith, inl, inr, leb-true, ltb-true, le-ltb, lt-ltb, eq-eqb, eqb, true≢false}
+use Rattle.std.proofs.Common.{◌≡◌, ℕ, zero, suc, ◌+◌, ◌<◌, ◌≤◌, min, true, ltb, List, [], ◌∷◌, ◌++◌, length, Option, Some, None, refl, sym, ◌∙◌, ap, ap₂, arith, inl, inr, leb-true, lt-ltb, eq-eqb, eqb}
 use Rattle.seg_words.proofs.Lemmas.{cond-true, cond-false, cases_Bool, or_left, or_right}
 use Rattle.seg_words.specs.Types.{Shape, first_block, is_extent, ADVANCE_BLOCKS}
 use Rattle.redo_model.specs.Records.{Record, AdvanceRecord, ExtendRecord}
-use Rattle.redo_model.specs.Model.{Extent, extents_of, extent_at, block_in, has_extent, header_of, l2_of, l3_of, group_start, data_blocks, high_mark}
+use Rattle.redo_model.specs.Model.{Extent, extents_of, extent_at, block_in, has_extent, l2_of, group_start, data_blocks}
 use Rattle.mark_laws.specs.Drafts.{drafted_advance, drafted_extend, with_extent}
 use Rattle.mark_laws.specs.There.{HasExtents}
 use Rattle.mark_laws.proofs.SameRecords.{advance_same, extend_same}

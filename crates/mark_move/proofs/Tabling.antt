@@ -1,5 +1,5 @@
 -- The records of a new table.
-use Rattle.std.proofs.Common.{◌≡◌, ℕ, suc, ◌+◌, ◌<◌, ◌≤◌, true, false, not, ltb, List, ◌∷◌, Option, Some, None, refl, sym, ◌∙◌, ap, subst, arith, inl, inr, lt-ltb, leb-true}
+use Rattle.std.proofs.Common.{◌≡◌, ℕ, suc, ◌+◌, ◌≤◌, true, false, not, List, ◌∷◌, Option, Some, None, refl, sym, ◌∙◌, ap, subst, arith}
 use Rattle.std.specs.Prelude.{Ok}
 use Rattle.seg_words.proofs.Lemmas.{and_parts}
 use Rattle.seg_words.specs.Types.{Shape, MOST_TABLES, first_block, is_extent, is_shape}
@@ -8,7 +8,7 @@ use Rattle.redo_model.specs.Records.{Record, Table, Extend}
 use Rattle.redo_model.specs.Model.{table_count, is_taken, is_whole, IsLawful}
 use Rattle.redo_laws.proofs.numbers.Bounds.{limits}
 use Rattle.mark_laws.specs.Movements.{least_free}
-use Rattle.mark_laws.specs.Drafts.{drafted_table, drafted_first}
+use Rattle.mark_laws.specs.Drafts.{drafted_first}
 use Rattle.mark_laws.specs.Moves.{MayMake}
 use Rattle.mark_laws.proofs.Numbers.{least_free_is, least_free_none}
 use Rattle.mark_laws.proofs.MovesLaw.{tables_are_made}

@@ -1,4 +1,4 @@
-use Rattle.std.proofs.Common.{sym, ◌∙◌, true≢false, ap}
+use Rattle.std.proofs.Common.{sym, ◌∙◌, true≢false}
 use Rattle.mark_move.proofs.Truth.{segment_has}
 use Rattle.store_core.proofs.Lookups.{refused_after}
 use Rattle.mark_move.proofs.recording.format_record.Goals as goal

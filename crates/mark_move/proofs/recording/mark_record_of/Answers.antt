@@ -1,4 +1,4 @@
-use Rattle.std.proofs.Common.{◌≡◌, ℕ, IfOk, sym, ◌∙◌, subst}
+use Rattle.std.proofs.Common.{◌≡◌, IfOk, sym, ◌∙◌, subst}
 use Rattle.seg_words.specs.Types.{Shape}
 use Rattle.mark_laws.specs.Drafts.{mark_record}
 use Rattle.store_core.proofs.Lookups.{looked_on}

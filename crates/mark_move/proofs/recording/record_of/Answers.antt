@@ -1,5 +1,5 @@
-use Rattle.std.proofs.Common.{◌≡◌, ℕ, IfOk, Some, sym, ◌∙◌, ap, subst}
-use Rattle.redo_model.specs.Records.{Record, Advance}
+use Rattle.std.proofs.Common.{◌≡◌, IfOk, Some, sym, ◌∙◌, ap, subst}
+use Rattle.redo_model.specs.Records.{Advance}
 use Rattle.mark_laws.specs.declared.step.MarkStep.{MarkStep}
 use Rattle.mark_laws.specs.Drafts.{mark_record}
 use Rattle.store_core.proofs.Lookups.{looked_same}

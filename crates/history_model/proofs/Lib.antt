@@ -5,3 +5,4 @@ mod TwoHistories
 mod RefusedHistories
 mod ShrunkHistories
 mod MigratedHistories
+mod ScannedHistories

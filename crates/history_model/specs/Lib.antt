@@ -16,4 +16,5 @@ pub mod Running
 pub mod Worked
 pub mod WorkedShrink
 pub mod WorkedMigration
+pub mod WorkedScan
 pub mod Types

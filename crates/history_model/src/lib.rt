@@ -10,6 +10,7 @@ mod limit;
 
 ghost use Rattle.history_model.specs.Worked.{HistoriesAreLegal, HistoriesAreRefused};
 ghost use Rattle.history_model.specs.WorkedMigration.{MigrationsAreShown};
+ghost use Rattle.history_model.specs.WorkedScan.{ScansAreShown};
 ghost use Rattle.history_model.specs.WorkedShrink.{ShrinksAreShown};
 
 pub use history::{HistoryItem, Kept, Settled, Start};
@@ -36,4 +37,9 @@ pub fn shrinks_are_shown()
 /// An update that migrates its row, and the movement of the marks before it.
 pub fn migrations_are_shown()
     ensures { MigrationsAreShown }
+{}
+
+/// A scan that is refused since undo it needs was reused; one that keeps nothing, or more than its list has, is none.
+pub fn scans_are_shown()
+    ensures { ScansAreShown }
 {}

@@ -11,7 +11,7 @@ pub use Rattle.history_laws.specs.Telling.{start_now, entry_now, MayStart, Start
 pub use Rattle.history_laws.specs.Passes.{FirstPassStays, FirstPassLater, is_refused, AcceptedPasses, FirstIsRefused}
 pub use Rattle.history_laws.specs.Answered.{BusyAnswers, TakenAnswers, NeedsSeek, SpentUpdates, SpentDeletes}
 pub use Rattle.history_laws.specs.ScanRefusals.{IsScanRefused, MarkedAreRefused, LostAreRefused, UnknownAreRefused}
-pub use Rattle.history_laws.specs.Ways.{WorksGoOn, SessionRuns, SessionsRun, RunsEnd, Starts, starts_none, starts_one, KeepsRead, Ends, ends_none, ends_one, IsEvent, IsRun, run_none, run_event, EventKeeps, EventsKeep, RunsAreLegal, IsWorldHistory, HistoriesBegin, HistoriesGoOn}
+pub use Rattle.history_laws.specs.Ways.{WorksGoOn, SessionRuns, SessionsRun, RunsEnd, with_start, read_before, read_after, ReadsTell, Ends, ends_none, ends_one, IsEvent, SettlesBlock, AreSettlings, settling_none, settling_one, EventKeeps, EventsKeep, SettlingsKeep, ReadsGoOn, IsRun, run_none, run_settling, run_event, RunsAreLegal, IsWorldHistory, HistoriesBegin, SessionsAreOn, HistoriesGoOn, HistoriesSettle}
 pub use Rattle.history_laws.specs.Changing.{BeginsFor, IsOwnTxn, IsBegunFor, AddsChange, MakesChange, ChangeTells, InsertsTell, UpdatesTell, DeletesTell}
 pub use Rattle.history_laws.specs.Acting.{InsertsMove, UpdatesMove, IsRowWork, MarksLeaveWork, begun_row, RowsBegin, found_row, RowsAreFound, BacksBegin, TakesBack, BackGoes, BacksGo, BackEnds, BacksEnd}
 pub use Rattle.history_laws.specs.OneEvent.{RecordTells, TableTells, TablesTell, MovementsTell, CommitsTell, FixesTell, FixedTell}

@@ -15,7 +15,7 @@ ghost use Rattle.history_laws.specs.Shrinks.{CompactsMean, CursorsCome, CursorsP
 ghost use Rattle.history_laws.specs.Starts.{StartsEnd, StartsGoOn};
 ghost use Rattle.history_laws.specs.Telling.{EntriesKeep, OthersAreTold, OwnIsTold, SpansBegin, StartsKeep};
 ghost use Rattle.history_laws.specs.Tests.{FirstCausesTell};
-ghost use Rattle.history_laws.specs.Ways.{EventsKeep, HistoriesBegin, HistoriesGoOn, RunsAreLegal, RunsEnd, SessionsRun, WorksGoOn};
+ghost use Rattle.history_laws.specs.Ways.{EventsKeep, HistoriesBegin, HistoriesGoOn, HistoriesSettle, RunsAreLegal, RunsEnd, SessionsRun, SettlingsKeep, WorksGoOn};
 ghost use Rattle.history_laws.specs.Scans.{EmptyScansMean, MarksMean, ScansMean, ScansOpen, ScansRead};
 
 /// What each start and each entry says of some records it says of every list that begins with them, whatever was added: so an
@@ -437,4 +437,14 @@ pub fn histories_begin()
 /// Each of its events keeps what it promises of its history.
 pub fn histories_go_on()
     ensures { HistoriesGoOn }
+{}
+
+/// So does a settling.
+pub fn settlings_keep()
+    ensures { SettlingsKeep }
+{}
+
+/// So does a settling, and a batch of pages.
+pub fn histories_settle()
+    ensures { HistoriesSettle }
 {}

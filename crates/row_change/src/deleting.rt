@@ -1,15 +1,14 @@
 // A row deleted.
-ghost use Rattle.std.specs.Prelude.{◌≡◌, ◌≤◌, ◌∷◌, [], ℕ, List, Option, None, length, IfOk, IfErr};
-ghost use Rattle.seg_words.specs.Types.{LONGEST_ROW};
+ghost use Rattle.std.specs.Prelude.{◌≡◌, ◌∷◌, [], ℕ, List, Option, None, IfOk, IfErr};
 ghost use Rattle.redo_model.specs.Records.{Record};
 ghost use Rattle.redo_model.specs.Model.{IsRowBlock, IsTable, nothing};
-ghost use Rattle.change_laws.specs.Types.{Fill as TheFill, WasFound, blocks_at, by_lack, by_spot, change_size, delete_answer, delete_fills, delete_of, fill, first_lacking, spot_for};
+ghost use Rattle.change_laws.specs.Types.{WasFound, blocks_at, by_lack, by_spot, change_size, delete_answer, delete_fills, delete_of, fill, first_lacking, spot_for};
 ghost use Rattle.store_core.specs.Causes.{HasCause, HasLooked, IsSoundFault};
 ghost use Rattle.store_core.specs.Store.{IsTrue, SameLoan};
 ghost use Rattle.row_change.specs.Acting.{MayAct};
 ghost use Rattle.row_change.specs.Answering.{Answers, store_answer};
 ghost use Rattle.row_change.specs.Deciding.{DecisionMeans};
-ghost use Rattle.row_change.specs.Drafting.{ChangeIs, FillIs, FillsAre, fill_list, told_content};
+ghost use Rattle.row_change.specs.Drafting.{FillsAre, fill_list};
 ghost use Rattle.row_change.specs.Looking.{IsFreeAt};
 ghost use Rattle.row_change.specs.Opening.{ActsBy};
 ghost use Rattle.row_change.specs.Planning.{CanBeMade};
@@ -18,63 +17,16 @@ ghost use Rattle.row_change.specs.Standing.{AreAtHome, told_stand};
 use crate::Place;
 use crate::answer::{ChangeFault, Done};
 use crate::deciding::{Decision, carry_out, decide};
-use crate::draft::{Change, ChangeKind, Content, Fill, Fills};
+use crate::draft::{Change, ChangeKind, Fills};
+use crate::filling::{emptied, then_emptied};
 use crate::lacking::lack_of;
 use crate::looking::{Front, Look, look_again};
-use crate::opening::{Opening, begin_change, fill_at};
+use crate::opening::{Opening, begin_change};
 use crate::stand::{Stand, stand_of};
 use disk_model::Disk;
-use seg_base::{Kind, Obj, RowNo, Rowid, Text, TxnId};
+use seg_base::{Obj, RowNo, Rowid, TxnId};
 use std::alloc::Global;
 use store_core::{Store, StoreFault};
-
-fn nothing(alloc: Global) -> Content
-    ensures content { told_content result ≡ nothing }
-    ensures short { length result.bytes ≤ LONGEST_ROW }
-{
-    Content {
-        kind: Kind::Empty,
-        row: RowNo(0),
-        link: None,
-        bytes: Text::empty(alloc),
-    }
-}
-
-/// A slot emptied.
-pub fn emptied<D: Disk>(
-    alloc: Global,
-    store: &mut Store<D>,
-    opening: &Opening,
-    at: &Rowid,
-) -> Result<Fill, StoreFault>
-    ensures looked { HasLooked D.meaning store.old store.new result }
-    ensures says { (R : List Record) (o who : ℕ) (own : Option ℕ) → IsTrue D.meaning R store.old → ActsBy R who own opening.now → IsRowBlock store.old.shape R o at.now.dba → IfOk result (λ f. FillIs R own f (fill at.now nothing)) }
-    ensures sound { (R : List Record) (o who : ℕ) (own : Option ℕ) → IsTrue D.meaning R store.old → ActsBy R who own opening.now → IsRowBlock store.old.shape R o at.now.dba → store.old.fault ≡ None → IfErr result IsSoundFault }
-{
-    let content = nothing(alloc);
-    match fill_at(alloc, store, opening, at.dba, Some(at.slot), content) {
-        Ok(fill) => Ok(fill),
-        Err(fault) => Err(fault),
-    }
-}
-
-/// A slot emptied behind another one filled.
-pub fn then_emptied<D: Disk>(
-    alloc: Global,
-    store: &mut Store<D>,
-    opening: &Opening,
-    first: Fill,
-    at: &Rowid,
-) -> Result<Fills, StoreFault>
-    ensures looked { HasLooked D.meaning store.old store.new result }
-    ensures says { (R : List Record) (o who : ℕ) (own : Option ℕ) (g : TheFill) → IsTrue D.meaning R store.old → ActsBy R who own opening.now → IsRowBlock store.old.shape R o at.now.dba → FillIs R own first g → IfOk result (λ fs. FillsAre R own (fill_list fs) (g ∷ fill at.now nothing ∷ [])) }
-    ensures sound { (R : List Record) (o who : ℕ) (own : Option ℕ) → IsTrue D.meaning R store.old → ActsBy R who own opening.now → IsRowBlock store.old.shape R o at.now.dba → store.old.fault ≡ None → IfErr result IsSoundFault }
-{
-    match emptied(alloc, store, opening, at) {
-        Ok(second) => Ok(Fills::Two(first, second)),
-        Err(fault) => Err(fault),
-    }
-}
 
 fn both_emptied<D: Disk>(
     alloc: Global,

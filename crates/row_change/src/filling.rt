@@ -1,4 +1,4 @@
-// What an update puts where.
+// What an update and a delete put where.
 ghost use Rattle.std.specs.Prelude.{◌≡◌, ◌≤◌, ◌∷◌, [], ℕ, List, Option, None, length, IfOk, IfErr};
 ghost use Rattle.seg_words.specs.Types.{LONGEST_ROW, Rowid as TheRowid};
 ghost use Rattle.redo_model.specs.Records.{Record};
@@ -11,7 +11,6 @@ ghost use Rattle.row_change.specs.Filling.{again, first_of};
 ghost use Rattle.row_change.specs.Opening.{ActsBy};
 ghost use Rattle.row_change.specs.Standing.{AreAtHome, told_stand};
 
-use crate::deleting::{emptied, then_emptied};
 use crate::draft::{Content, Fill, Fills};
 use crate::inserting::plain_row;
 use crate::looking::Front;
@@ -21,6 +20,54 @@ use disk_model::Disk;
 use seg_base::{Dba, Kind, NoMemory, RowNo, Rowid, Text};
 use std::alloc::Global;
 use store_core::{Store, StoreFault};
+
+fn nothing(alloc: Global) -> Content
+    ensures content { told_content result ≡ nothing }
+    ensures short { length result.bytes ≤ LONGEST_ROW }
+{
+    Content {
+        kind: Kind::Empty,
+        row: RowNo(0),
+        link: None,
+        bytes: Text::empty(alloc),
+    }
+}
+
+/// A slot emptied.
+pub fn emptied<D: Disk>(
+    alloc: Global,
+    store: &mut Store<D>,
+    opening: &Opening,
+    at: &Rowid,
+) -> Result<Fill, StoreFault>
+    ensures looked { HasLooked D.meaning store.old store.new result }
+    ensures says { (R : List Record) (o who : ℕ) (own : Option ℕ) → IsTrue D.meaning R store.old → ActsBy R who own opening.now → IsRowBlock store.old.shape R o at.now.dba → IfOk result (λ f. FillIs R own f (fill at.now nothing)) }
+    ensures sound { (R : List Record) (o who : ℕ) (own : Option ℕ) → IsTrue D.meaning R store.old → ActsBy R who own opening.now → IsRowBlock store.old.shape R o at.now.dba → store.old.fault ≡ None → IfErr result IsSoundFault }
+{
+    let content = nothing(alloc);
+    match fill_at(alloc, store, opening, at.dba, Some(at.slot), content) {
+        Ok(fill) => Ok(fill),
+        Err(fault) => Err(fault),
+    }
+}
+
+/// A slot emptied behind another one filled.
+pub fn then_emptied<D: Disk>(
+    alloc: Global,
+    store: &mut Store<D>,
+    opening: &Opening,
+    first: Fill,
+    at: &Rowid,
+) -> Result<Fills, StoreFault>
+    ensures looked { HasLooked D.meaning store.old store.new result }
+    ensures says { (R : List Record) (o who : ℕ) (own : Option ℕ) (g : TheFill) → IsTrue D.meaning R store.old → ActsBy R who own opening.now → IsRowBlock store.old.shape R o at.now.dba → FillIs R own first g → IfOk result (λ fs. FillsAre R own (fill_list fs) (g ∷ fill at.now nothing ∷ [])) }
+    ensures sound { (R : List Record) (o who : ℕ) (own : Option ℕ) → IsTrue D.meaning R store.old → ActsBy R who own opening.now → IsRowBlock store.old.shape R o at.now.dba → store.old.fault ≡ None → IfErr result IsSoundFault }
+{
+    match emptied(alloc, store, opening, at) {
+        Ok(second) => Ok(Fills::Two(first, second)),
+        Err(fault) => Err(fault),
+    }
+}
 
 /// The content of a slot with other bytes.
 fn again(alloc: Global, front: &Front, bytes: &[u8]) -> Result<Content, NoMemory>

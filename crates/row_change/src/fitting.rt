@@ -2,7 +2,7 @@
 ghost use Rattle.std.specs.Prelude.{◌≡◌, ◌<◌, ℕ, List, Option, None, cond, IfOk, IfErr};
 ghost use Rattle.redo_model.specs.Records.{Record};
 ghost use Rattle.redo_model.specs.Model.{IsRowBlock, slot_count};
-ghost use Rattle.change_laws.specs.Types.{Apart, InPlace, ToHead, ToOther, fits_at, path_of, path_past, taker_of};
+ghost use Rattle.change_laws.specs.Types.{Apart, InPlace, ToHead, ToOther, fits_at, path_of, taker_of};
 ghost use Rattle.version_laws.specs.Types.{ended_by};
 ghost use Rattle.store_core.specs.Causes.{HasLooked, IsSoundFault};
 ghost use Rattle.store_core.specs.Store.{IsTrue};

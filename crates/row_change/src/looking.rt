@@ -3,11 +3,11 @@ ghost use Rattle.std.specs.Prelude.{◌≡◌, ℕ, true, false, List, Option, S
 ghost use Rattle.seg_words.specs.Types.{Rowid as TheRowid, is_shape, new_slot};
 ghost use Rattle.redo_model.specs.Records.{Record};
 ghost use Rattle.redo_model.specs.Model.{IsRowBlock};
-ghost use Rattle.change_laws.specs.Types.{IsBornAt, IsOwn, WasFound};
+ghost use Rattle.change_laws.specs.Types.{IsOwn, WasFound};
 ghost use Rattle.store_core.specs.Store.{IsTrue};
 ghost use Rattle.store_core.specs.Causes.{HasLooked, IsSoundFault};
 ghost use Rattle.row_change.specs.Locating.{IsSearch, Sees};
-ghost use Rattle.row_change.specs.Looking.{FrontTells, IsThere, Keeps, LookMeans, NotTold, SeesOther, front_in, front_of};
+ghost use Rattle.row_change.specs.Looking.{FrontTells, IsThere, Keeps, LookMeans, NotTold, front_in, front_of};
 
 use crate::Place;
 use crate::blocks::search_for;

@@ -1,6 +1,6 @@
 // What a change writes over: a slot's image, and what its block has for the transaction.
 ghost use Rattle.std.specs.Prelude.{◌≡◌, ◌<◌, ◌≤◌, length, max, IfOk, slice_index_or};
-ghost use Rattle.seg_words.specs.Types.{LONGEST_ROW, is_empty, new_slot, is_reusable, writer_has_ended, row_size, slot_to_use, next_room};
+ghost use Rattle.seg_words.specs.Types.{LONGEST_ROW, is_empty, new_slot, is_reusable, writer_has_ended, slot_to_use, next_room};
 ghost use Rattle.redo_model.specs.Model.{number_or_zero};
 ghost use Rattle.row_change.specs.Reading.{replaced_at, replaced_in, slot_or};
 ghost use Rattle.version_laws.specs.Types.{ended_by};

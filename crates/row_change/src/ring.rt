@@ -1,5 +1,5 @@
 // How an undo block is used.
-ghost use Rattle.std.specs.Prelude.{◌≡◌, ◌≤◌, IfSome};
+ghost use Rattle.std.specs.Prelude.{◌≡◌};
 ghost use Rattle.row_change.specs.Reading.{state_in};
 
 use page_set::Page;

@@ -1,6 +1,6 @@
 // Where a row stands.
 ghost use Rattle.std.specs.Prelude.{◌≡◌};
-ghost use Rattle.change_laws.specs.Types.{holder_of, stand_of};
+ghost use Rattle.change_laws.specs.Types.{stand_of};
 ghost use Rattle.row_change.specs.Standing.{told_stand};
 
 use crate::looking::Front;

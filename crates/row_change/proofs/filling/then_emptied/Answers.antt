@@ -1,5 +1,5 @@
 use Rattle.store_core.proofs.Lookups.{looked_ok, looked_err}
-use Rattle.row_change.proofs.deleting.then_emptied.Goals as goal
+use Rattle.row_change.proofs.filling.then_emptied.Goals as goal
 
 pub returns-in-Ok-clause-looked : goal.returns-in-Ok-clause-looked
 returns-in-Ok-clause-looked g c = looked_ok g.D.Disk.meaning c.args.store.now c.emptied.new.store c.in-Ok.second _ c.in-Ok.ensures.looked

@@ -1,8 +1,8 @@
 -- One row more, or none.
-use Rattle.std.proofs.Common.{◌≡◌, ℕ, List, [], ◌∷◌, ◌++◌, option_to_list, Option, Some, None, refl, sym, ◌∙◌, ap}
+use Rattle.std.proofs.Common.{◌≡◌, ℕ, List, [], ◌∷◌, ◌++◌, option_to_list, Option, Some, None, sym, ◌∙◌, ap}
 use Rattle.redo_model.specs.Records.{Record}
 use Rattle.version_read.specs.Walking.{txn_or_none}
-use Rattle.scan_table.specs.declared.answer.RowOut.{RowOut}
+use Rattle.history_text.specs.declared.outcome.RowOut.{RowOut}
 use Rattle.scan_table.specs.declared.reader.Reader.{Reader}
 use Rattle.scan_table.specs.Reading.{SlotAdded, SlotGives}
 use Rattle.scan_table.proofs.Going.{append_none}

@@ -1,14 +1,13 @@
 -- A block that is read slot by slot: of the store it was only looked at, and the rows so far are those of the slots so far.
-use Rattle.std.proofs.Common.{◌≡◌, ℕ, zero, suc, ◌+◌, ◌<◌, ◌≤◌, true, false, leb, List, [], ◌∷◌, ◌++◌, map, option_map, option_to_list, Option, Some, None, refl, sym, ◌∙◌, ap, ap₂, subst, arith, inl, inr, leb-true, leb-false}
+use Rattle.std.proofs.Common.{◌≡◌, ℕ, suc, ◌+◌, ◌<◌, ◌≤◌, true, leb, List, [], ◌∷◌, ◌++◌, map, option_map, option_to_list, Option, Some, None, refl, sym, ◌∙◌, ap, subst, arith, inl, inr, leb-true, leb-false}
 use Rattle.std.specs.Prelude.{Result, Ok, Err, Contains, take}
 use Rattle.seg_words.proofs.Lemmas.{cases_Bool}
-use Rattle.seg_words.specs.Types.{Shape, UndoAddr, is_shape}
+use Rattle.seg_words.specs.Types.{Shape, UndoAddr}
 use Rattle.disk_model.specs.Crash.{Meaning}
 use Rattle.redo_model.specs.Records.{Record}
-use Rattle.redo_model.specs.Model.{found_below, high_mark, data_blocks, image_at, row_at, rows_at, slot_count}
+use Rattle.redo_model.specs.Model.{found_below, high_mark, data_blocks, image_at, row_at, slot_count}
 use Rattle.redo_laws.proofs.space.ApartLaw.{extents_are_apart}
 use Rattle.redo_laws.proofs.space.Places.{contains_in, in_contains, in_take}
-use Rattle.redo_laws.specs.Among.{is_in}
 use Rattle.version_laws.specs.Types.{Found, chain_end}
 use Rattle.version_read.specs.Walking.{IsWalk, StepsTo, txn_or_none}
 use Rattle.store_core.specs.Store.{Held, IsTrue, has_page}
@@ -17,11 +16,11 @@ use Rattle.store_core.specs.Undo.{IsWorking, Looks}
 use Rattle.store_core.specs.declared.fault.StoreFault.{StoreFault}
 use Rattle.store_core.proofs.Lookups.{looked_on, looked_ok, refused_after}
 use Rattle.store_core.proofs.UndoLent.{all_looked, page_when}
-use Rattle.scan_table.specs.declared.answer.RowOut.{RowOut}
+use Rattle.history_text.specs.declared.outcome.RowOut.{RowOut}
 use Rattle.scan_table.specs.declared.answer.ScanFault.{ScanFault}
 use Rattle.scan_table.specs.declared.answer.ScanFault.TheVariants as faults
 use Rattle.scan_table.specs.declared.reader.Reader.{Reader}
-use Rattle.scan_table.specs.Reading.{AllEnd, BlockRefuses, IsRead, IsReading, SlotAdded, SlotGives, SlotRefuses, row_out, store_part}
+use Rattle.scan_table.specs.Reading.{AllEnd, BlockRefuses, IsRead, IsReading, SlotAdded, SlotRefuses, row_out, store_part}
 use Rattle.scan_table.proofs.Showing.{reader_of}
 
 -- the store after a call, for the same reader

@@ -1,3 +1,9 @@
 pub mod Showing
 pub mod Going
 pub mod Adding
+pub mod Locating
+pub mod Sorting
+pub mod Staying
+pub mod Advancing
+pub mod Keeping
+pub mod Lowering

@@ -3,7 +3,7 @@ use Rattle.std.proofs.Common.{◌≡◌, ℕ, ◌<◌, ◌≤◌, true, false, l
 use Rattle.seg_words.proofs.Lemmas.{cases_Bool}
 use Rattle.seg_words.specs.Types.{Shape, Slot, Block, UndoAddr}
 use Rattle.redo_model.specs.Records.{Record}
-use Rattle.redo_model.specs.Model.{Made, counts, first_counted, image, makers, slot_count}
+use Rattle.redo_model.specs.Model.{Made, counts, first_counted, image, slot_count}
 use Rattle.redo_model.proofs.Bridge.{count_is}
 use Rattle.row_block.specs.Types.{RowPage}
 use Rattle.version_laws.specs.Types.{Found, HoldsRows, end_from}
@@ -19,7 +19,7 @@ use Rattle.page_set.specs.declared.page.Page.{Page}
 use Rattle.page_set.specs.declared.page.Page.TheVariants.{Rows}
 use Rattle.page_set.specs.Folded.{page_of}
 use Rattle.store_laws.proofs.KindsLaw.{rows_stand, rows_are_held}
-use Rattle.scan_table.specs.declared.answer.RowOut.{RowOut}
+use Rattle.history_text.specs.declared.outcome.RowOut.{RowOut}
 use Rattle.scan_table.specs.declared.reader.Reader.{Reader}
 use Rattle.scan_table.specs.Reading.{IsReading, Shows, ShowsAs, SlotGives, row_of, row_out, rows_of}
 

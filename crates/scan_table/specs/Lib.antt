@@ -1,1 +1,4 @@
 pub mod Reading
+pub mod Listing
+pub mod Standing
+pub mod Places

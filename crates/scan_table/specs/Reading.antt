@@ -4,7 +4,7 @@
 use Rattle.std.specs.Prelude.{◌≡◌, ℕ, ◌<◌, true, List, ◌++◌, map, option_map, option_to_list, Option, Some, None, Result, Ok, Err}
 use Rattle.seg_words.specs.Types.{Shape, Slot, UndoAddr, is_shape}
 use Rattle.redo_model.specs.Records.{Record}
-use Rattle.redo_model.specs.Model.{slot_count, image_at, row_at, rows_at, found_below, IsTable, IsRowBlock, IsLawful}
+use Rattle.redo_model.specs.Model.{slot_count, image_at, row_at, rows_at, IsTable, IsRowBlock, IsLawful}
 use Rattle.row_block.specs.Types.{RowPage}
 use Rattle.version_laws.specs.Types.{HoldsTable, Found, Lost, Unknown, chain_end, IsTooOld, IsTooOldEntry}
 use Rattle.version_read.specs.Walking.{IsOwn, IsRefused, IsRefusedEntry, StepsTo, txn_or_none}
@@ -14,7 +14,8 @@ use Rattle.page_set.specs.declared.page.Page.{Page}
 use Rattle.page_set.specs.declared.page.Page.TheVariants.{Rows}
 use Rattle.store_core.specs.Causes.{IsSoundFault}
 use Rattle.store_core.specs.declared.fault.StoreFault.{StoreFault}
-use Rattle.scan_table.specs.declared.answer.RowOut.{RowOut}
+use Rattle.history_text.specs.declared.outcome.RowOut.{RowOut}
+pub use Rattle.history_model.specs.TableMeans.{row_out}
 use Rattle.scan_table.specs.declared.answer.ScanFault.{ScanFault}
 use Rattle.scan_table.specs.declared.answer.ScanFault.TheVariants as faults
 use Rattle.scan_table.specs.declared.reader.Reader.{Reader}
@@ -26,10 +27,6 @@ abbrev pub rows_of : Page → Option RowPage
 rows_of (Rows b) = Some b
 rows_of _ = None
 
--- a row as it is given
-abbrev pub row_out : ℕ × List ℕ → RowOut
-row_out p = record { row = p.0; bytes = p.1 }
-
 abbrev pub row_of : Slot → RowOut
 row_of i = record { row = i.row; bytes = i.bytes }
 
@@ -40,6 +37,11 @@ store_part (Err (faults.TooOld a)) = Ok tt
 store_part (Err (faults.TooOldEntry u)) = Ok tt
 store_part (Err (faults.Gone x n)) = Ok tt
 store_part (Err (faults.Store f)) = Err f
+
+-- no block is refused for what was released
+abbrev pub IsOfBlock : ScanFault → Type 0
+IsOfBlock (faults.Gone x n) = ⊥
+IsOfBlock _ = Unit {0}
 
 -- The reader has the transaction table of a lawful list in a store of this shape, in which block b is a row block of table o.
 pub record IsReading (sh : Shape) (R : List Record) (q : Reader) (o b : ℕ) : Type 0 where
@@ -126,6 +128,6 @@ BlockRefuses R b s t (faults.TooOldEntry u) = IsFirstUnknown R b s t u
 BlockRefuses R b s t (faults.Gone x n) = ⊥
 BlockRefuses R b s t (faults.Store f) = IsSoundFault f
 
-abbrev pub BlockAnswers : List Record → Reader → ℕ → Result (List RowOut) ScanFault → Type 0
-BlockAnswers R q b (Ok rows) = IsRead R b q.at (txn_or_none q.own) rows
-BlockAnswers R q b (Err e) = BlockRefuses R b q.at (txn_or_none q.own) e
+abbrev pub BlockAnswers : List Record → ℕ → ℕ → ℕ → Result (List RowOut) ScanFault → Type 0
+BlockAnswers R b s t (Ok rows) = IsRead R b s t rows
+BlockAnswers R b s t (Err e) = BlockRefuses R b s t e

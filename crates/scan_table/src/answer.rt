@@ -1,14 +1,8 @@
 // What a scan answers.
-use seg_base::{RowNo, Scn, Sequence, Text, TxnId, UndoAddr};
+use history_text::RowOut;
+use seg_base::{Scn, Sequence, TxnId, UndoAddr};
 use store_core::StoreFault;
 use thiserror::Error;
-
-/// A row as a scan gives it.
-#[derive(Debug, Drop)]
-pub struct RowOut {
-    pub row: RowNo,
-    pub bytes: Text,
-}
 
 /// The rows of a table at a commit number, in order of row number.
 #[derive(Debug, Drop)]

@@ -4,8 +4,17 @@
 #![tactic(auto)]
 
 mod answer;
+mod laws;
+mod listing;
+mod marking;
+mod opening;
 mod reader;
 mod rows;
+mod scan;
+mod scans;
 mod slots;
 
-pub use answer::{RowOut, ScanFault, ScanStep, Scanned};
+pub use answer::{ScanFault, ScanStep, Scanned};
+pub use history_text::RowOut;
+pub use laws::{marks_are_lowerings, scans_stay};
+pub use scans::Scans;

@@ -8,7 +8,7 @@ ghost use Rattle.version_laws.specs.Types.{HoldsRows};
 ghost use Rattle.scan_table.specs.Reading.{rows_of, row_of, IsReading, Shows, ShowsAs};
 ghost use Rattle.scan_table.specs.declared.reader.Reader.{Reader as TheReader};
 
-use crate::RowOut;
+use history_text::RowOut;
 use page_set::Page;
 use row_block::RowBlock;
 use seg_base::{NoMemory, Scn, Shape, Slot, TxnId, UndoAddr};

@@ -1,8 +1,9 @@
 // Rows that wait until all blocks are read.
 ghost use Rattle.std.specs.Prelude.{◌≡◌, ◌++◌, ◌∷◌, [], OnErr, OnOk};
+ghost use Rattle.history_laws.specs.Scans.{Sorts};
 
-use crate::RowOut;
-use seg_base::NoMemory;
+use history_text::RowOut;
+use seg_base::{NoMemory, Sequence};
 use std::alloc::Global;
 use std::marker::Model;
 
@@ -14,7 +15,7 @@ pub struct Rows {
 
 impl Model for Rows {
     ghost use Rattle.std.specs.Prelude.{List};
-    ghost use Rattle.scan_table.specs.declared.answer.RowOut.{RowOut};
+    ghost use Rattle.history_text.specs.declared.outcome.RowOut.{RowOut};
 
     ghost Value = { List RowOut };
 
@@ -46,4 +47,19 @@ impl Rows {
         self.items.append(&mut items)?;
         Ok(())
     }
+
+    /// The rows in order of row number.
+    pub fn into_sorted(self) -> Sequence<RowOut>
+        ensures { Sorts self result }
+    {
+        Sequence::from_vec(in_order(self.items))
+    }
+}
+
+fn in_order(rows: Vec<RowOut>) -> Vec<RowOut>
+    ensures { Sorts rows.items result.items }
+{
+    let mut sorted = rows;
+    sorted.sort_unstable_by_key(|row| row.row.0);
+    sorted
 }

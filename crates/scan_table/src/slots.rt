@@ -3,18 +3,19 @@ ghost use Rattle.std.specs.Prelude.{◌≡◌, ◌∷◌, [], ℕ, List, None, S
 ghost use Rattle.seg_words.specs.Types.{Shape as TheShape};
 ghost use Rattle.redo_model.specs.Records.{Record};
 ghost use Rattle.redo_model.specs.Model.{slot_count};
-ghost use Rattle.version_read.specs.Walking.{SeesRowAt, StepsTo};
+ghost use Rattle.version_read.specs.Walking.{SeesRowAt, StepsTo, txn_or_none};
 ghost use Rattle.store_core.specs.Store.{IsFetched, IsTrue};
 ghost use Rattle.store_core.specs.Causes.{HasLooked, IsSoundFault};
 ghost use Rattle.store_core.specs.Undo.{IsWorking};
-ghost use Rattle.scan_table.specs.Reading.{BlockAnswers, IsReading, Shows, SlotAdds, SlotAnswers, SlotGives, store_part};
+ghost use Rattle.scan_table.specs.Reading.{BlockAnswers, IsOfBlock, IsReading, Shows, SlotAdds, SlotAnswers, SlotGives, store_part};
 ghost use Rattle.scan_table.specs.declared.reader.Reader.{Reader as TheReader};
 ghost use Rattle.version_read.specs.declared.chain.Seen.TheVariants as seens;
 
+use crate::ScanFault;
 use crate::reader::{Reader, Shown, copy_row, shown_in, slots_in};
 use crate::rows::Rows;
-use crate::{RowOut, ScanFault};
 use disk_model::Disk;
+use history_text::RowOut;
 use seg_base::{Dba, NoMemory, TxnId, UndoAddr};
 use std::alloc::Global;
 use store_core::{Store, StoreFault};
@@ -59,6 +60,7 @@ fn follow_down<D: Disk>(
 ) -> Result<Option<RowOut>, ScanFault>
     requires { store.old.fault ≡ None }
     ensures looked { HasLooked D.meaning store.old store.new (store_part result) }
+    ensures block { IfErr result IsOfBlock }
     ensures says { (R : List Record) (o : ℕ) → IsTrue D.meaning R store.old → IsReading store.old.shape R reader.now o dba → StepsTo reader.now.shape R dba slot reader.now.at reader.now.own from → SlotAnswers R reader.now dba slot result }
 {
     let ring = reader.shape.undo;
@@ -91,6 +93,7 @@ fn row_by<D: Disk>(
 ) -> Result<Option<RowOut>, ScanFault>
     requires { store.old.fault ≡ None }
     ensures looked { HasLooked D.meaning store.old store.new (store_part result) }
+    ensures block { IfErr result IsOfBlock }
     ensures says { (R : List Record) (o : ℕ) → IsTrue D.meaning R store.old → IsReading store.old.shape R reader.now o dba → Shows R reader.now dba slot shown → SlotAnswers R reader.now dba slot result }
 {
     match shown {
@@ -124,6 +127,7 @@ fn read_slot<D: Disk>(
 ) -> Result<Option<RowOut>, ScanFault>
     requires { store.old.fault ≡ None }
     ensures looked { HasLooked D.meaning store.old store.new (store_part result) }
+    ensures block { IfErr result IsOfBlock }
     ensures says { (R : List Record) (o : ℕ) → IsTrue D.meaning R store.old → IsReading store.old.shape R reader.now o dba → SlotAnswers R reader.now dba slot result }
 {
     match store.fetch(dba) {
@@ -148,6 +152,7 @@ fn add_slot<D: Disk>(
 ) -> Result<(), ScanFault>
     requires { store.old.fault ≡ None }
     ensures looked { HasLooked D.meaning store.old store.new (store_part result) }
+    ensures block { IfErr result IsOfBlock }
     ensures says { (R : List Record) (o : ℕ) → IsTrue D.meaning R store.old → IsReading store.old.shape R reader.now o dba → SlotAdds R reader.now dba slot rows.old rows.new result }
 {
     match read_slot(alloc, store, dba, slot, reader) {
@@ -193,7 +198,8 @@ pub fn read_block<D: Disk>(
 ) -> Result<Rows, ScanFault>
     requires { store.old.fault ≡ None }
     ensures looked { HasLooked D.meaning store.old store.new (store_part result) }
-    ensures says { (R : List Record) (o : ℕ) → IsTrue D.meaning R store.old → IsReading store.old.shape R reader.now o dba → BlockAnswers R reader.now dba result }
+    ensures block { IfErr result IsOfBlock }
+    ensures says { (R : List Record) (o : ℕ) → IsTrue D.meaning R store.old → IsReading store.old.shape R reader.now o dba → BlockAnswers R dba reader.now.at (txn_or_none reader.now.own) result }
 {
     let slots = match count_slots(store, dba) {
         Ok(slots) => slots,

@@ -1,5 +1,5 @@
 use Rattle.std.proofs.Common.{subst}
-use Rattle.std.specs.Prelude.{Ok, Err}
+use Rattle.std.specs.Prelude.{Ok}
 use Rattle.store_core.proofs.Lookups.{looked_memory}
 use Rattle.scan_table.specs.Reading.{SlotAnswers}
 use Rattle.scan_table.proofs.Adding.{none_added, row_added}

@@ -4,7 +4,7 @@ use Rattle.version_read.specs.Walking.{IsRefusedEntry, txn_or_none}
 use Rattle.store_core.specs.Store.{IsFetched}
 use Rattle.store_core.proofs.Lookups.{looked_memory}
 use Rattle.store_core.proofs.UndoLent.{all_looked, all_failed}
-use Rattle.scan_table.specs.declared.answer.RowOut.{RowOut}
+use Rattle.history_text.specs.declared.outcome.RowOut.{RowOut}
 use Rattle.scan_table.specs.Reading.{SlotGives}
 use Rattle.scan_table.proofs.Going.{working, works, is_walk, walked, walk_refused}
 use Rattle.scan_table.proofs.Showing.{gives_none}

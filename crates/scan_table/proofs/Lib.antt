@@ -7,3 +7,4 @@ pub mod Staying
 pub mod Advancing
 pub mod Keeping
 pub mod Lowering
+pub mod Serving

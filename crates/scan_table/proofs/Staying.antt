@@ -38,7 +38,7 @@ with_is : (n : ℕ) (o : Option ℕ) → option_map gone_of (mark_with n o) ≡ 
 with_is n None = refl
 with_is n (Some x) = refl
 
-lowered_is : (sh : Shape) (l : LowerRecord) (o : ℕ) (bs : List ℕ) → option_map gone_of (cond (eqb l.obj o) (mark_with l.lowering (least_having sh bs l.released)) None) ≡ gone_by sh (Lower l) o bs
+pub lowered_is : (sh : Shape) (l : LowerRecord) (o : ℕ) (bs : List ℕ) → option_map gone_of (cond (eqb l.obj o) (mark_with l.lowering (least_having sh bs l.released)) None) ≡ gone_by sh (Lower l) o bs
 lowered_is sh l o bs = elim (eqb l.obj o) as (λ v. option_map gone_of (cond v (mark_with l.lowering (least_having sh bs l.released)) None) ≡ cond v (gone_with l.lowering (least_having sh bs l.released)) None) [
   | true ↦ with_is l.lowering (least_having sh bs l.released)
   | false ↦ refl

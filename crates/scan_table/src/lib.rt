@@ -16,5 +16,5 @@ mod slots;
 
 pub use answer::{ScanFault, ScanStep, Scanned};
 pub use history_text::RowOut;
-pub use laws::{marks_are_lowerings, scans_stay};
+pub use laws::{marks_are_lowerings, scans_are_work, scans_stay};
 pub use scans::Scans;

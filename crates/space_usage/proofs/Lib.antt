@@ -2,3 +2,4 @@ pub mod Naming
 pub mod Stored
 pub mod Bitmaps
 pub mod Drafting
+pub mod Walks

@@ -2,3 +2,4 @@ pub mod Named
 pub mod Asked
 pub mod Keeping
 pub mod Settles
+pub mod Counting

@@ -1,12 +1,17 @@
 //! How full a table's blocks are: the kept class of each, by the bitmaps, and its class, by its own page. One block at a time is
-//! settled, so that both are the same.
+//! settled, so that both are the same; usage is counted by the kept classes.
 #![tactic(auto)]
 
 mod adding;
 mod cleaning;
+mod counting;
+mod counts;
 mod keeping;
 mod levels;
 mod named;
 mod settling;
+mod walking;
 
+pub use counting::{inexact, usage};
+pub use counts::Usage;
 pub use settling::settle;

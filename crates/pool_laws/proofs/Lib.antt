@@ -1,0 +1,3 @@
+pub mod Redoing
+pub mod Plain
+pub mod Written

@@ -12,7 +12,7 @@ use Rattle.std.proofs.lemmas.Map.Views.{All-values_from_lookup}
 use Rattle.std.proofs.lemmas.List.{map_more}
 use Rattle.std.proofs.lemmas.List.Elements.{All-from_recursion}
 use Rattle.std.proofs.lemmas.List.Sorted.{All-permutation, length_permutation}
-use Rattle.std.proofs.lemmas.Bool.{true≢false, le-leb}
+use Rattle.std.proofs.lemmas.Bool.{true≢false, le-leb, leb-true}
 use Rattle.std.proofs.lemmas.Bool.Decides.{nat_tests}
 use Rattle.std.proofs.lemmas.Grind.{common_steps}
 use Rattle.lru.proofs.Pairs.{slice_get-cut}
@@ -26,7 +26,7 @@ use Rattle.page_set.specs.Spelled.{HasSpelling, meaning_of, spelling_of}
 use Rattle.page_set.proofs.ReadAgain.{meaning_again}
 use Rattle.buffer_pool.specs.declared.frame.Frame.{Frame}
 use Rattle.buffer_pool.specs.Frames.{dirty_count, frame_at, framed, has_page, page_over, weight, HasOnlyPages, IsDirty, IsShown, Shows}
-use Rattle.buffer_pool.specs.Batches.{cleaned, due_blocks, is_due, raw_page, AreUpTo, ReadBack, Settled}
+use Rattle.buffer_pool.specs.Batches.{cleaned, due_blocks, is_due, raw_page, AreUpTo, IsDueIn, ReadBack, Settled}
 use Rattle.buffer_pool.proofs.Drops.{one_number}
 
 -- which frames are due
@@ -58,31 +58,35 @@ found_from front [] all is apart = tt
 found_from front (e ∷ es) all is apart =
     (lookup_from_place nat_eq_equiv all (length front) e.0 e.1 apart (rw is (slice_get-cut front e es)), found_from (front ++ e ∷ []) es all (is ∙ sym (append_assoc front (e ∷ []) es)) apart)
 
-due_frame : (upto : ℕ) (f : Frame) (o : Option Frame) → is_due upto f ≡ true → o ≡ Some f → IsDirty o
-due_frame upto f None due is = cc
-due_frame upto f (Some g) due is = dirty_both f.dirty (nat_le (lsn_of f.page) upto) due same
+due_frame : (upto : ℕ) (f : Frame) (o : Option Frame) → is_due upto f ≡ true → o ≡ Some f → IsDueIn upto o
+due_frame upto f o due is = subst (IsDueIn upto) (sym is) (both f.dirty (nat_le (lsn_of f.page) upto) due refl refl)
   where
-    same : g.dirty ≡ f.dirty
-    same = cc
+    both : (a b : Bool) → (a && b) ≡ true → f.dirty ≡ a → nat_le (lsn_of f.page) upto ≡ b → (f.dirty ≡ true) × (lsn_of f.page ≤ upto)
+    both true true h dirty few = (dirty, leb-true (lsn_of f.page) upto few)
+    both true false h dirty few = absurd (true≢false (sym h))
+    both false b h dirty few = absurd (true≢false (sym h))
 
-    dirty_both : (a b : Bool) → (a && b) ≡ true → g.dirty ≡ a → g.dirty ≡ true
-    dirty_both true b h e = e
-    dirty_both false b h e = absurd (true≢false (sym h))
-
-due_from : (upto : ℕ) (es all : List (ℕ × Frame)) → AllByRecursion (λ (e : ℕ × Frame). frame_at all e.0 ≡ Some e.1) es → AllByRecursion (λ d. IsDirty (frame_at all d)) (due_blocks upto es)
+due_from : (upto : ℕ) (es all : List (ℕ × Frame)) → AllByRecursion (λ (e : ℕ × Frame). frame_at all e.0 ≡ Some e.1) es → AllByRecursion (λ d. IsDueIn upto (frame_at all d)) (due_blocks upto es)
 due_from upto [] all found = tt
 due_from upto (e ∷ es) all found = decide (is_due upto e.1) refl (due_from upto es all found.1)
   where
-    decide : (t : Bool) → is_due upto e.1 ≡ t → AllByRecursion (λ d. IsDirty (frame_at all d)) (due_blocks upto es) → AllByRecursion (λ d. IsDirty (frame_at all d)) (due_blocks upto (e ∷ es))
+    decide : (t : Bool) → is_due upto e.1 ≡ t → AllByRecursion (λ d. IsDueIn upto (frame_at all d)) (due_blocks upto es) → AllByRecursion (λ d. IsDueIn upto (frame_at all d)) (due_blocks upto (e ∷ es))
     decide true h rest = rw h (due_frame upto e.1 (frame_at all e.0) h found.0, rest)
     decide false h rest = rw h rest
 
-pub due_dirty : (upto n : ℕ) (f : Frame) (es : List (ℕ × Frame)) (numbers : List ℕ) → IsDistinct nat_eq (keys_of es) → frame_at es n ≡ None → IsPermutation (due_blocks upto ((n, f) ∷ es)) numbers
-    → All (λ d. IsDirty (frame_at ((n, f) ∷ es) d)) numbers
-due_dirty upto n f es numbers apart none same =
+pub due_in : (upto n : ℕ) (f : Frame) (es : List (ℕ × Frame)) (numbers : List ℕ) → IsDistinct nat_eq (keys_of es) → frame_at es n ≡ None → IsPermutation (due_blocks upto ((n, f) ∷ es)) numbers
+    → All (λ d. IsDueIn upto (frame_at ((n, f) ∷ es) d)) numbers
+due_in upto n f es numbers apart none same =
     let held : List (ℕ × Frame) = (n, f) ∷ es in
     let found = found_from [] held held refl (all_apart n f es apart none) in
-    All-permutation (λ d. IsDirty (frame_at held d)) (due_blocks upto held) numbers same (All-from_recursion (λ d. IsDirty (frame_at held d)) (due_blocks upto held) (due_from upto held held found))
+    All-permutation (λ d. IsDueIn upto (frame_at held d)) (due_blocks upto held) numbers same (All-from_recursion (λ d. IsDueIn upto (frame_at held d)) (due_blocks upto held) (due_from upto held held found))
+
+dirty_of : (upto : ℕ) (o : Option Frame) → IsDueIn upto o → IsDirty o
+dirty_of upto None h = absurd h
+dirty_of upto (Some f) h = h.0
+
+pub due_dirty : (upto : ℕ) (held : List (ℕ × Frame)) (numbers : List ℕ) → All (λ d. IsDueIn upto (frame_at held d)) numbers → All (λ d. IsDirty (frame_at held d)) numbers
+due_dirty upto held numbers due = λ i d less. dirty_of upto (frame_at held (get_or numbers i d)) (due i d less)
 
 count_due : (upto : ℕ) (es : List (ℕ × Frame)) → All (λ (f : Frame). lsn_of f.page ≤ upto) (values_of es) → length (due_blocks upto es) ≡ dirty_count es
 count_due upto [] h = refl
@@ -262,7 +266,7 @@ settled_front n f a = record { at = λ d. rw (flips d) (decide d (nat_eq d n)) }
 
 -- once the batch is written, each block shows what it showed
 
-page_in_raw : (held : List (ℕ × Frame)) (ns : List ℕ) (d : ℕ) (bytes : List ℕ) → page_in (map (raw_page held) ns) d bytes ≡ cond (list_any (λ b. nat_eq b d) ns) (spelling_of (framed held d)) bytes
+pub page_in_raw : (held : List (ℕ × Frame)) (ns : List ℕ) (d : ℕ) (bytes : List ℕ) → page_in (map (raw_page held) ns) d bytes ≡ cond (list_any (λ b. nat_eq b d) ns) (spelling_of (framed held d)) bytes
 page_in_raw held [] d bytes = refl
 page_in_raw held (n ∷ ns) d bytes = decide (nat_eq n d) refl (page_in_raw held ns d bytes)
   where
@@ -319,3 +323,6 @@ batch_length held ns batch is = ap (λ (ps : List RawPage). length ps) is ∙ ea
     each : (ns : List ℕ) → length (map (raw_page held) ns) ≡ length ns
     each [] = refl
     each (n ∷ ns) = omega (arith, each ns)
+
+pub batch_due : (upto : ℕ) (held : List (ℕ × Frame)) (ns : List ℕ) (batch : List RawPage) → batch ≡ map (raw_page held) ns → All (λ d. IsDueIn upto (frame_at held d)) ns → All (λ d. IsDueIn upto (frame_at held d)) (blocks_of batch)
+batch_due upto held ns batch is due = subst (All (λ d. IsDueIn upto (frame_at held d))) (sym (ap blocks_of is ∙ blocks_raw held ns)) due

@@ -1,5 +1,5 @@
 -- The batch of dirty pages that are written next, and what it leaves.
-use Rattle.std.specs.Prelude.{◌≡◌, ℕ, ◌≤◌, Bool, true, ◌&&◌, List, filter, take, map, nat_eq, nat_le, cond, IfSome}
+use Rattle.std.specs.Prelude.{◌≡◌, ℕ, ◌≤◌, Bool, true, Option, Some, None, ◌&&◌, List, filter, take, map, nat_eq, nat_le, cond, IfSome}
 use Rattle.std.specs.List.{list_any}
 use Rattle.std.specs.List.Sorted.{IsPermutation, IsSorted}
 use Rattle.std.specs.Option.{option_map}
@@ -16,6 +16,11 @@ use Rattle.buffer_pool.specs.Frames.{frame_at, framed, has_page, clean_frame}
 -- dirty, with a page that no record after `upto` changed
 abbrev pub is_due : ℕ → Frame → Bool
 is_due upto f = f.dirty && nat_le (lsn_of f.page) upto
+
+-- a block has a frame that is due
+abbrev pub IsDueIn : ℕ → Option Frame → Type 0
+IsDueIn upto None = ⊥
+IsDueIn upto (Some f) = (f.dirty ≡ true) × (lsn_of f.page ≤ upto)
 
 abbrev pub due_blocks : ℕ → List (ℕ × Frame) → List ℕ
 due_blocks upto held = keys_of (filter (λ e. is_due upto e.1) held)

@@ -6,7 +6,7 @@ ghost use Rattle.std.specs.Ordering.{nat_cmp};
 ghost use Rattle.page_store.specs.Types.{after, blocks_of, is_batch};
 ghost use Rattle.page_set.specs.declared.page.Page.{Page as ThePage};
 ghost use Rattle.buffer_pool.specs.Frames.{frame_at, HasOnlyPages, IsDirty, Shows};
-ghost use Rattle.buffer_pool.specs.Batches.{due_blocks, raw_page, AreUpTo, IsBatch, ReadBack, Settled};
+ghost use Rattle.buffer_pool.specs.Batches.{due_blocks, raw_page, AreUpTo, IsBatch, IsDueIn, ReadBack, Settled};
 
 use crate::cache::{add_due, clean};
 use crate::pool::BufferPool;
@@ -32,6 +32,7 @@ impl BufferPool {
         ensures due { IfOk result (λ numbers. IsPermutation (due_blocks upto self.now.held) numbers.items) }
         ensures order { IfOk result (λ numbers. IsSorted nat_cmp numbers.items) }
         ensures apart { IfOk result (λ numbers. IsDistinct nat_eq numbers.items) }
+        ensures each { IfOk result (λ numbers. All (λ d. IsDueIn upto (frame_at self.now.held d)) numbers.items) }
         ensures dirty { IfOk result (λ numbers. All (λ d. IsDirty (frame_at self.now.held d)) numbers.items) }
         ensures only { OnOk result (HasOnlyPages self.now.shape self.now.held) }
         ensures many { AreUpTo upto self.now.held → IfOk result (λ numbers. length numbers.items ≡ self.now.dirty) }
@@ -106,6 +107,7 @@ impl BufferPool {
     /// as it was.
     pub fn take_batch(&mut self, most: u8, upto: Lsn) -> Result<Vec<RawPage>, NoMemory>
         ensures batch { IfOk result (λ batch. IsBatch most upto self.old.held batch.items) }
+        ensures due { IfOk result (λ batch. All (λ d. IsDueIn upto (frame_at self.old.held d)) (blocks_of batch.items)) }
         ensures settled { IfOk result (λ batch. Settled (blocks_of batch.items) self.old.held self.new.held) }
         ensures dirty { IfOk result (λ batch. self.new.dirty + length batch.items ≡ self.old.dirty) }
         ensures many { AreUpTo upto self.old.held → IfOk result (λ batch. length batch.items ≡ min most self.old.dirty) }

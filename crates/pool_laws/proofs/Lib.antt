@@ -1,3 +1,4 @@
 pub mod Redoing
 pub mod Plain
 pub mod Written
+pub mod Folds

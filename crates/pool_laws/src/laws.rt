@@ -1,5 +1,6 @@
 // Laws of pages that are older than the list of records.
 ghost use Rattle.pool_laws.specs.Reached.{AllAreReached, NewPagesAreReached, ReachedPagesStay, RecordsAreRedone, WrittenPagesAreReached};
+ghost use Rattle.pool_laws.specs.Folds.{BatchesKeepFolds, FoldsStay, NewFilesAreFolded};
 
 /// A data file of zeros has come as far as no record.
 #[tactic(auto, using(crate::proofs::Redoing::new_reached))]
@@ -30,4 +31,20 @@ pub fn reached_pages_stay()
 #[tactic(auto, using(crate::proofs::Written::written_reached))]
 pub fn written_pages_are_reached()
     ensures { WrittenPagesAreReached }
+{}
+
+/// A data file of zeros is that of a store without a record, and of any other that begins with one.
+pub fn new_files_are_folded()
+    ensures { NewFilesAreFolded }
+{}
+
+/// The pages of a data file are folds of the log's records also when the log has more.
+pub fn folds_stay()
+    ensures { FoldsStay }
+{}
+
+/// A batch that is taken of the pages after all records, up to what the log has, leaves a data file whose pages are folds of the
+/// log's records.
+pub fn batches_keep_folds()
+    ensures { BatchesKeepFolds }
 {}

@@ -1,8 +1,8 @@
 use Rattle.std.proofs.Common.{arith, ℕ, List, length, min, sym, ap, subst, ◌∙◌}
 use Rattle.std.proofs.lemmas.List.{length-take}
-use Rattle.buffer_pool.specs.Batches.{Settled}
+use Rattle.buffer_pool.specs.Batches.{IsDueIn, Settled}
 use Rattle.buffer_pool.specs.Frames.{frame_at, IsDirty}
-use Rattle.buffer_pool.proofs.Batched.{all_take, apart_take, batch_length, settled_blocks, shows_put, writable}
+use Rattle.buffer_pool.proofs.Batched.{all_take, apart_take, batch_due, batch_length, settled_blocks, shows_put, writable}
 use Rattle.buffer_pool.proofs.pool.BufferPool.take_batch.Goals as goal
 
 pub settle_all-requires-clause-apart : goal.settle_all-requires-clause-apart
@@ -50,3 +50,9 @@ returns-clause-shows c = λ pages image s back.
     shows_put c.args.self.now.shape pages image c.deref.result.now c.in_ok-batch.batch.items old new
     (rw (c.deref.ensures.value, c.truncate.ensures.items) (all_take (λ d. IsDirty (frame_at old d)) c.args.most c.in_ok-numbers.numbers.items c.in_ok-numbers.ensures.dirty)) c.in_ok-batch.ensures
     (subst (λ (xs : List ℕ). Settled xs old new) (c.deref-2.ensures.value ∙ sym c.deref.ensures.value) c.settle_all.ensures.settled) back s
+
+pub returns-clause-due : goal.returns-clause-due
+returns-clause-due c =
+    let held = c.args.self.now.held in
+    batch_due c.args.upto held c.deref.result.now c.in_ok-batch.batch.items c.in_ok-batch.ensures
+    (rw (c.deref.ensures.value, c.truncate.ensures.items) (all_take (λ d. IsDueIn c.args.upto (frame_at held d)) c.args.most c.in_ok-numbers.numbers.items c.in_ok-numbers.ensures.each))

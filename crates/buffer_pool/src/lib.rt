@@ -9,6 +9,8 @@ mod frame;
 mod making;
 mod pool;
 mod reading;
+#[cfg(test)]
+mod tests;
 
 pub use changed::Changed;
 pub use frame::{FRAMES, MOST_DIRTY, has_page};

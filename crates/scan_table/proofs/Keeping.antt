@@ -1,6 +1,6 @@
 -- The places of open scans.
 use Rattle.std.proofs.Common.{◌≡◌, ◌≢◌, ℕ, ◌-◌, Bool, cond, ◌≤◌, true, false, List, [], ◌∷◌, length, Option, Some, None, refl, sym, ◌∙◌, ap, subst, arith}
-use Rattle.std.specs.Prelude.{Result, Ok, Err, slice_set}
+use Rattle.std.specs.Prelude.{Result, Ok, Err, slice_set, IsSome}
 use Rattle.std.proofs.lemmas.List.{get_or-set_same, get_or-set_other}
 use Rattle.seg_words.specs.Types.{Shape}
 use Rattle.redo_model.specs.Records.{Record}
@@ -12,7 +12,7 @@ use Rattle.scan_table.specs.declared.answer.ScanStep.{ScanStep}
 use Rattle.scan_table.specs.declared.answer.ScanStep.TheVariants as steps
 use Rattle.scan_table.specs.declared.scan.OpenScan.{OpenScan}
 use Rattle.scan_table.specs.Standing.{Advances, HoldsScan, IsOpened, IsSettled, LeavesOff}
-use Rattle.scan_table.specs.Places.{Begins, IsAfter, IsBegun, Steps, left_by, place, stays_open}
+use Rattle.scan_table.specs.Places.{Begins, IsAfter, IsBegun, IsOpenAfter, Steps, left_by, place, stays_open}
 use Rattle.scan_table.proofs.Advancing.{opened_stands}
 use Rattle.scan_table.proofs.Staying.{all_gathered}
 
@@ -48,10 +48,14 @@ begins_told sh R o own s x (steps.Done d) a i w h b =
 pub begun_more : (s u : OpenScan) (x : Option OpenScan) → LeavesOff s u steps.More → x ≡ Some u → IsBegun s x steps.More
 begun_more s u x h e = (e ∙ ap (λ (z : OpenScan). Some z) h.0, h.1)
 
+pub open_after : (s : OpenScan) (x : Option OpenScan) (step : ScanStep) → IsBegun s x step → IsOpenAfter x (Ok step)
+open_after s x steps.More b = subst (λ (o : Option OpenScan). IsSome o) (sym b.0) refl
+open_after s x (steps.Done d) b = b.0
+
 -- a scan's event
 
 pub after_told : (s u : OpenScan) (x : Option OpenScan) (r : Result ScanStep ScanFault) → IsSettled s u r → x ≡ left_by r u → IsAfter s x r
-after_told s u x (Ok steps.More) h e = (h, λ n. absurd (let z : ◌≡◌ {A = Option OpenScan} None (Some u) = sym n ∙ e in cc))
+after_told s u x (Ok steps.More) h e = (h, subst (λ (o : Option OpenScan). IsSome o) (sym e) refl)
 after_told s u x (Ok (steps.Done d)) h e = (h, e)
 after_told s u x (Err (faults.TooOld a)) h e = (h.0, e)
 after_told s u x (Err (faults.TooOldEntry t)) h e = (h.0, e)

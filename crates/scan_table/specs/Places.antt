@@ -1,5 +1,5 @@
 -- One place for the open scan of each session.
-use Rattle.std.specs.Prelude.{◌≡◌, ℕ, ◌-◌, ◌<◌, ◌≤◌, Bool, true, false, cond, List, [], length, map, slice_index_or, Option, Some, None, Result, Ok, Err}
+use Rattle.std.specs.Prelude.{◌≡◌, ℕ, ◌-◌, ◌<◌, ◌≤◌, Bool, true, false, cond, List, [], length, map, slice_index_or, Option, Some, None, IsSome, Result, Ok, Err}
 use Rattle.seg_words.specs.Types.{Shape}
 use Rattle.redo_model.specs.Records.{Record}
 use Rattle.redo_model.specs.Model.{commit_count, view_rows}
@@ -38,6 +38,12 @@ abbrev pub IsBegun : OpenScan → Option OpenScan → ScanStep → Type 0
 IsBegun s x steps.More = (x ≡ Some s) × (s.read < length s.blocks)
 IsBegun s x (steps.Done d) = (x ≡ None) × (d.at ≡ s.at) × (length s.blocks ≤ s.read) × Sorts s.rows d.rows
 
+-- whatever the store is
+abbrev pub IsOpenAfter : Option OpenScan → Result ScanStep ScanFault → Type 0
+IsOpenAfter x (Ok steps.More) = IsSome x
+IsOpenAfter x (Ok (steps.Done d)) = x ≡ None
+IsOpenAfter x (Err e) = x ≡ None
+
 pub record HasBegun (sh : Shape) (R : List Record) (o : ℕ) (own : Option ℕ) (x : Option OpenScan) : Type 0 where
   pub scan : OpenScan
   pub open_now : x ≡ Some scan
@@ -63,7 +69,7 @@ Begins sh R o own x (Err e) = ⊥
 -- Whatever the store is: a scan stays open where it goes on, and as it was where the store failed; else it is closed. It is
 -- refused as its mark says exactly where it is marked.
 abbrev pub IsAfter : OpenScan → Option OpenScan → Result ScanStep ScanFault → Type 0
-IsAfter s x (Ok steps.More) = (s.mark ≡ None) × (x ≡ None → ⊥)
+IsAfter s x (Ok steps.More) = (s.mark ≡ None) × IsSome x
 IsAfter s x (Ok (steps.Done d)) = (s.mark ≡ None) × (x ≡ None)
 IsAfter s x (Err (faults.Gone e n)) = (s.mark ≡ Some (record { extent = e; lowering = n })) × (x ≡ None)
 IsAfter s x (Err (faults.Store f)) = (s.mark ≡ None) × (x ≡ Some s)

@@ -1,5 +1,5 @@
 // The open scans of all sessions.
-ghost use Rattle.std.specs.Prelude.{◌≡◌, ◌≢◌, ◌-◌, ◌<◌, ◌≤◌, ℕ, List, length, option_map, slice_index_or, slice_set, None, Some, IfOk, IsSome, OnErr};
+ghost use Rattle.std.specs.Prelude.{◌≡◌, ◌≢◌, ◌-◌, ◌<◌, ◌≤◌, ℕ, List, length, option_map, slice_index_or, slice_set, None, Some, is_some, IfOk, IsSome, OnErr};
 ghost use Rattle.seg_words.specs.Types.{MOST_SESSIONS};
 ghost use Rattle.redo_model.specs.Records.{Record};
 ghost use Rattle.redo_model.specs.Model.{IsTable};
@@ -8,7 +8,7 @@ ghost use Rattle.store_core.specs.Causes.{HasLooked};
 ghost use Rattle.store_core.specs.Store.{IsTrue};
 ghost use Rattle.scan_table.specs.Reading.{store_part};
 ghost use Rattle.scan_table.specs.Standing.{HoldsScan, marked_by};
-ghost use Rattle.scan_table.specs.Places.{Begins, IsAfter, IsBegun, Steps, left_by, place, stays_open};
+ghost use Rattle.scan_table.specs.Places.{Begins, IsAfter, IsBegun, IsOpenAfter, Steps, left_by, place, stays_open};
 ghost use Rattle.scan_table.specs.declared.scan.OpenScan.{OpenScan as TheScan};
 
 use crate::opening::open_scan;
@@ -108,6 +108,15 @@ impl Scans {
         Ok(Scans { alloc, places })
     }
 
+    /// Whether a session has an open scan.
+    pub fn is_open(&self, who: u8) -> bool
+        requires least { 1 ≤ who }
+        requires most { who ≤ MOST_SESSIONS }
+        ensures { result ≡ is_some (place who self.now) }
+    {
+        self.places[usize::from(who) - 1].is_some()
+    }
+
     /// The first event of a scan of a session without an open one: takes the number of commits and the list of the blocks to read.
     /// Done where there is none. The table is there, and `own` is an active transaction or none. A refusal leaves all as it was.
     pub fn open<D: Disk>(
@@ -124,6 +133,7 @@ impl Scans {
         ensures looked { HasLooked D.meaning store.old store.new (store_part result) }
         ensures others { (v : ℕ) → 1 ≤ v → v ≢ who → place v self.new ≡ place v self.old }
         ensures kept { OnErr result (self.new ≡ self.old) }
+        ensures after { IsOpenAfter (place who self.new) result }
         ensures begins { (R : List Record) → IsTrue D.meaning R store.old → IsTable R obj → IsOwn R own → Begins store.old.shape R obj own (place who self.new) result }
     {
         match open_scan(self.alloc, store, obj, own) {

@@ -4,7 +4,7 @@ use Rattle.std.specs.Prelude.{Result, Ok, Err, slice_get}
 use Rattle.disk_model.specs.Crash.{Meaning}
 use Rattle.seg_words.specs.Types.{Shape, is_shape}
 use Rattle.redo_model.specs.Records.{Record}
-use Rattle.redo_model.specs.Model.{commit_count, rows_at, AreAllowed, IsLawful, IsRowBlock, IsTable}
+use Rattle.redo_model.specs.Model.{commit_count, rows_at, AreAllowed, IsLawful, IsRowBlock, IsTable, slot_count}
 use Rattle.redo_laws.specs.Scan.{scan_list, scanned}
 use Rattle.redo_laws.specs.Stays.{not_later}
 use Rattle.version_laws.specs.Types.{HoldsTable}
@@ -23,8 +23,8 @@ use Rattle.scan_table.specs.declared.answer.ScanStep.TheVariants as steps
 use Rattle.scan_table.specs.declared.reader.Reader.{Reader}
 use Rattle.scan_table.specs.declared.scan.Gone.{Gone}
 use Rattle.scan_table.specs.declared.scan.OpenScan.{OpenScan}
-use Rattle.scan_table.specs.Reading.{BlockRefuses, IsOfBlock, IsReading, row_out}
-use Rattle.scan_table.specs.Standing.{Advances, HoldsScan, IsOpened, IsReadOn, IsScanning, IsSettled, LeavesOff, ReadsOn, Refuses, gone_of, unread, with_rows}
+use Rattle.scan_table.specs.Reading.{AllEnd, BlockRefuses, IsOfBlock, IsReading, row_out}
+use Rattle.scan_table.specs.Standing.{Advances, HoldsScan, IsBlockRead, IsOpened, IsReadOn, IsScanning, IsSettled, LeavesOff, ReadsOn, Refuses, gone_of, unread, with_rows}
 use Rattle.scan_table.proofs.Staying.{NextBlock, all_gathered, gathered_next, next_block, none_marked}
 
 -- as whom a block is read
@@ -111,12 +111,16 @@ goes_on sh B R s rows m h e l = record {
   gathered = e;
 }
 
+block_is : (sh : Shape) (R B : List Record) (s u : OpenScan) (b : ℕ) → HoldsScan sh B R s → slice_get s.blocks s.read ≡ Some b → IsReadOn R s u b → IsBlockRead B R s
+block_is sh R B s u b h n r = record { block = b; next = n; ends = subst (λ c. AllEnd R b c (txn_or_none s.own) (slot_count R b)) h.number r.read.ends }
+
 pub block_read : (sh : Shape) (B R : List Record) (s u v : OpenScan) (b : ℕ) (x : ScanStep) → AreAllowed sh R → HoldsScan sh B R s → s.mark ≡ None → slice_get s.blocks s.read ≡ Some b → IsReadOn R s u b → LeavesOff u v x → Advances B R s v (Ok x)
 block_read sh B R s u v b steps.More a h m n r o =
     let k = next_block sh B R s b a m n h in
     let same : v ≡ with_rows s r.rows = o.0 ∙ r.new in
     let l : s.read + 1 < length s.blocks = subst (λ (z : OpenScan). z.read < length z.blocks) r.new o.1 in
     record {
+      block_is = block_is sh R B s u b h n r;
       obj_is = ap (λ (z : OpenScan). z.obj) same;
       own_is = ap (λ (z : OpenScan). z.own) same;
       one_read = ap (λ (z : OpenScan). z.read) same ∙ (let e : s.read + 1 ≡ suc s.read = omega arith in e);
@@ -127,6 +131,7 @@ block_read sh B R s u v b (steps.Done d) a h m n r o =
     let l : length s.blocks ≤ s.read + 1 = subst (λ (z : OpenScan). length z.blocks ≤ z.read) r.new o.1 in
     let w = h.within in
     record {
+      block_is = block_is sh R B s u b h n r;
       last = omega (arith, l, w);
       at_is = o.0 ∙ (ap (λ (z : OpenScan). z.at) r.new ∙ h.number);
       rows_are = all_gathered sh B s.obj s.own s.blocks (s.read + 1) (s.rows ++ r.rows) d.rows k.began h.table h.own_then h.list l (rows_then sh B R s u b h k n r) (subst (λ (z : OpenScan). Sorts z.rows d.rows) r.new o.2);

@@ -82,5 +82,5 @@ pub record GoesOn (B R : List Record) (s : OpenScan) (x : Option OpenScan) : Typ
 
 abbrev pub Steps : List Record → List Record → OpenScan → Option OpenScan → Result ScanStep ScanFault → Type 0
 Steps B R s x (Ok steps.More) = GoesOn B R s x
-Steps B R s x (Ok (steps.Done d)) = IsDone B s d
+Steps B R s x (Ok (steps.Done d)) = IsDone B R s d
 Steps B R s x (Err e) = Refuses B R s e

@@ -4,7 +4,7 @@
 use Rattle.std.specs.Prelude.{◌≡◌, ℕ, suc, ◌+◌, ◌<◌, ◌≤◌, cond, eqb, List, [], ◌∷◌, ◌++◌, length, take, drop, map, option_map, slice_get, Option, Some, None, Result, Ok, Err}
 use Rattle.seg_words.specs.Types.{Shape, UndoAddr}
 use Rattle.redo_model.specs.Records.{Record, Lower, LowerRecord}
-use Rattle.redo_model.specs.Model.{Effect, effect_of, commit_count, view_rows, IsTable, IsRowBlock}
+use Rattle.redo_model.specs.Model.{Effect, effect_of, commit_count, view_rows, IsTable, IsRowBlock, slot_count}
 use Rattle.redo_laws.specs.Scan.{scan_list, scanned}
 use Rattle.redo_laws.specs.Stays.{Later, IsNotOf}
 use Rattle.version_read.specs.Walking.{IsOwn, txn_or_none}
@@ -21,7 +21,7 @@ use Rattle.scan_table.specs.declared.answer.ScanStep.TheVariants as steps
 use Rattle.scan_table.specs.declared.answer.Scanned.{Scanned}
 use Rattle.scan_table.specs.declared.scan.Gone.{Gone}
 use Rattle.scan_table.specs.declared.scan.OpenScan.{OpenScan}
-use Rattle.scan_table.specs.Reading.{BlockRefuses, IsFirstLost, IsFirstUnknown, IsRead, row_out}
+use Rattle.scan_table.specs.Reading.{AllEnd, BlockRefuses, IsFirstLost, IsFirstUnknown, IsRead, row_out}
 
 -- ---- marks
 
@@ -120,15 +120,23 @@ IsSettled s u (Ok x) = s.mark ≡ None
 IsSettled s u (Err (faults.Gone x n)) = s.mark ≡ Some (record { extent = x; lowering = n })
 IsSettled s u (Err e) = (s.mark ≡ None) × (u ≡ s)
 
+-- in the next block the walk of each slot ends at the image that counts
+pub record IsBlockRead (B R : List Record) (s : OpenScan) : Type 0 where
+  pub block : ℕ
+  pub next : slice_get s.blocks s.read ≡ Some block
+  pub ends : AllEnd R block (commit_count B) (txn_or_none s.own) (slot_count R block)
+
 -- the next block was read, and another one is left
 pub record IsMore (sh : Shape) (B R : List Record) (s u : OpenScan) : Type 0 where
+  pub block_is : IsBlockRead B R s
   pub obj_is : u.obj ≡ s.obj
   pub own_is : u.own ≡ s.own
   pub one_read : u.read ≡ suc s.read
   pub stands : HoldsScan sh B R u
 
 -- the last block was read: the rows are those of the view when the scan began, in order of row number, each once
-pub record IsDone (B : List Record) (s : OpenScan) (d : Scanned) : Type 0 where
+pub record IsDone (B R : List Record) (s : OpenScan) (d : Scanned) : Type 0 where
+  pub block_is : IsBlockRead B R s
   pub last : suc s.read ≡ length s.blocks
   pub at_is : d.at ≡ commit_count B
   pub rows_are : d.rows ≡ map row_out (view_rows B s.obj (commit_count B) (txn_or_none s.own))
@@ -156,5 +164,5 @@ Refuses B R s (faults.Store f) = IsSoundFault f
 
 abbrev pub Advances : List Record → List Record → OpenScan → OpenScan → Result ScanStep ScanFault → Type 0
 Advances B R s u (Ok steps.More) = IsMore s.shape B R s u
-Advances B R s u (Ok (steps.Done d)) = IsDone B s d
+Advances B R s u (Ok (steps.Done d)) = IsDone B R s d
 Advances B R s u (Err e) = Refuses B R s e

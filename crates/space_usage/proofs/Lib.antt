@@ -3,3 +3,4 @@ pub mod Stored
 pub mod Bitmaps
 pub mod Drafting
 pub mod Walks
+pub mod Fixes

@@ -87,7 +87,7 @@ in_from b zero k l = absurd (omega (arith, l))
 in_from b (suc n) zero l = or_left _ _ (eq-eqb b (b + 0) (omega arith))
 in_from b (suc n) (suc k) l = or_right (eqb b (b + suc k)) _ (subst (λ c. is_in c (blocks_from (suc b) n) ≡ true) (let e : suc b + k ≡ b + suc k = omega arith in e) (in_from (suc b) n k (omega (arith, l))))
 
-data_in : (sh : Shape) (index x b nth : ℕ) → b ≡ first_block sh x → head_blocks index ≤ nth → nth < sh.extent → is_in (b + nth) (extent_data sh index x) ≡ true
+pub data_in : (sh : Shape) (index x b nth : ℕ) → b ≡ first_block sh x → head_blocks index ≤ nth → nth < sh.extent → is_in (b + nth) (extent_data sh index x) ≡ true
 data_in sh index x b nth e l u =
     subst (λ c. is_in c (extent_data sh index x) ≡ true) (let z : first_block sh x + head_blocks index + (nth - head_blocks index) ≡ b + nth = omega (arith, e, l) in z)
     (in_from (first_block sh x + head_blocks index) (sh.extent - head_blocks index) (nth - head_blocks index) (omega (arith, l, u)))

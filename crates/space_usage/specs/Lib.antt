@@ -3,3 +3,4 @@ pub mod Asked
 pub mod Keeping
 pub mod Settles
 pub mod Counting
+pub mod Fixing

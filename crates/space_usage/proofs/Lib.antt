@@ -4,3 +4,4 @@ pub mod Bitmaps
 pub mod Drafting
 pub mod Walks
 pub mod Fixes
+pub mod SumsLaw

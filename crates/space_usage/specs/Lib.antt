@@ -4,3 +4,4 @@ pub mod Keeping
 pub mod Settles
 pub mod Counting
 pub mod Fixing
+pub mod Sums

@@ -60,7 +60,7 @@ doing_same sh Q R Waiting t = refl
 doing_same sh Q R (Working k) t = ap (λ (z : Work). Working z) (work_same sh Q R k t)
 doing_same sh Q R (Repairing k) t = refl
 
-session_same : (sh : Shape) (Q R : List Record) (s : Session) → IsTidied Q R → session_since sh (length Q) R s ≡ s
+pub session_same : (sh : Shape) (Q R : List Record) (s : Session) → IsTidied Q R → session_since sh (length Q) R s ≡ s
 session_same sh Q R s t = ap (with_doing s) (doing_same sh Q R s.doing t)
   where
     with_doing : Session → Doing → Session

@@ -1,0 +1,17 @@
+//! The world: the sessions of a run over a store, one event a step.
+#![tactic(auto)]
+
+mod ending;
+mod event;
+mod naming;
+mod session;
+mod tables;
+mod testing;
+mod turned;
+
+pub use ending::{commit_own, roll_back, take_back};
+pub use event::{begin, finish, step_session};
+pub use naming::{Named, find_named, is_log_full};
+pub use session::{Doing, Session, Turn};
+pub use tables::{make_table, set_movement};
+pub use turned::{Acted, Turned, over, refused};

@@ -71,7 +71,7 @@ released_later sh B E F o n b m e h = record {
   released = subst (λ (z : List Record). is_released_since sh (length B) z o b ≡ true) (sym (prefix_longer E F m e h.within)) h.released;
 }
 
-repairs_later : (sh : Shape) (B E F : List Record) (o : ℕ) (all : List ℕ) (n : ℕ) (left : List ℕ) (ss : List Settled) → Extends E F → Repairs sh B E o all n left ss → Repairs sh B F o all n left ss
+pub repairs_later : (sh : Shape) (B E F : List Record) (o : ℕ) (all : List ℕ) (n : ℕ) (left : List ℕ) (ss : List Settled) → Extends E F → Repairs sh B E o all n left ss → Repairs sh B F o all n left ss
 repairs_later sh B E F o all n left ss e repairs_none = repairs_none
 repairs_later sh B E F o all m bs ts e (repairs_one n k b cs s ss us p q h r) = repairs_one n m b bs s ss ts p q (settled_later sh B E F o n b s e h) (repairs_later sh B E F o all n (b ∷ bs) ss e r)
 repairs_later sh B E F o all m bs ss e (repairs_past n k b cs us h r) = repairs_past n m b bs ss (released_later sh B E F o n b m e h) (repairs_later sh B E F o all n (b ∷ bs) ss e r)

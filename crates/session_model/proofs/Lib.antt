@@ -4,3 +4,4 @@ pub mod Going
 pub mod Events
 pub mod Settling
 pub mod Running
+pub mod Repairing

@@ -5,6 +5,7 @@
 #![tactic(auto)]
 
 ghost use Rattle.session_model.specs.Laws.{EndedSessions, EventsEnd, EventsFail, EventsGoOn, NoneIsBusy, SessionsEnd, SettlingsKeep, ShrinksAreBusy, StatementsGoOn, StatementsStart, WorldsBegin, WorldsRun};
+ghost use Rattle.session_model.specs.Repairs.{RepairsBegin, RepairsMean, RepairsPass, RepairsSettle};
 
 /// A run begins with records in which no session has a transaction.
 pub fn worlds_begin()
@@ -64,4 +65,24 @@ pub fn ended_sessions()
 /// What the sessions are makes a run: what is under way is on its way.
 pub fn worlds_run()
     ensures { WorldsRun }
+{}
+
+/// A repair begins with all the formatted blocks under its table's high mark.
+pub fn repairs_begin()
+    ensures { RepairsBegin }
+{}
+
+/// It goes on past a block that it settled.
+pub fn repairs_settle()
+    ensures { RepairsSettle }
+{}
+
+/// And past one that was released before its event.
+pub fn repairs_pass()
+    ensures { RepairsPass }
+{}
+
+/// With none left it means what its entry says.
+pub fn repairs_mean()
+    ensures { RepairsMean }
 {}

@@ -1,0 +1,5 @@
+use Rattle.session_model.proofs.Repairing as laws
+use Rattle.session_model.proofs.repairs_pass.Goals as goal
+
+pub returns : goal.returns
+returns c = laws.repairs_pass

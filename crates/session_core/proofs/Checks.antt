@@ -35,7 +35,7 @@ pub record PassBefore (sh : Shape) (x : Span) (st : Statement) (n : ℕ) : Type 
 past_first : (n k : ℕ) → n ≤ 9 → 10 ≤ k → ltb k n ≡ true → ⊥
 past_first n k l m e = let b = ltb-true k n e in absurd (omega (arith, l, m, b))
 
-pass_before : (sh : Shape) (x : Span) (st : Statement) (n : ℕ) → n ≤ 9 → PassBefore sh x st n → (z : Refusal) → ltb (rank z) n ≡ true → Cause sh x st 0 z → ⊥
+pub pass_before : (sh : Shape) (x : Span) (st : Statement) (n : ℕ) → n ≤ 9 → PassBefore sh x st n → (z : Refusal) → ltb (rank z) n ≡ true → Cause sh x st 0 z → ⊥
 pass_before sh x st n l f why.NoTable e h = f.table e h
 pass_before sh x st n l f why.TableExists e h = f.new_name e h
 pass_before sh x st n l f why.TooManyTables e h = f.few_tables e h

@@ -6,3 +6,6 @@ pub mod MakingTables
 pub mod Dispatch
 pub mod Running
 pub mod Steps
+pub mod Changes
+pub mod RowTests
+pub mod NewRows

@@ -5,3 +5,4 @@ pub mod Ends
 pub mod Tests
 pub mod Making
 pub mod Stepping
+pub mod Inserts

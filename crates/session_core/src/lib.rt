@@ -3,6 +3,7 @@
 
 mod ending;
 mod event;
+mod inserting;
 mod naming;
 mod session;
 mod tables;
@@ -11,6 +12,7 @@ mod turned;
 
 pub use ending::{commit_own, roll_back, take_back};
 pub use event::{begin, finish, step_session};
+pub use inserting::{go_on_inserting, start_insert};
 pub use naming::{Named, find_named, is_log_full};
 pub use session::{Doing, Session, Turn};
 pub use tables::{make_table, set_movement};

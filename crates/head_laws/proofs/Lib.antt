@@ -1,0 +1,2 @@
+pub mod LikeLaw
+pub mod HeadLaw

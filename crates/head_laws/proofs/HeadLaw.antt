@@ -21,7 +21,7 @@ use Rattle.mark_laws.proofs.SearchesLaw.{found_takes}
 use Rattle.change_laws.specs.Types.{Stand, IsOwn, IsOtherThan, stand_of, stand_in, now_at, IsBornAt, WasFound, IsFreeNow, IsBusyNow}
 use Rattle.change_laws.proofs.LookLaw.{open_of, places_show, released_are_changed}
 use Rattle.place_laws.specs.Located.{IsHeadOf}
-use Rattle.head_laws.specs.Heads.{stand_by, blocks_by, sought_by, LocatedPlacesStay, LocatedWereFound, FreeAreNewest, HeadsStay, TargetsAreOther, FoundAreTargets}
+use Rattle.head_laws.specs.Heads.{stand_by, blocks_by, sought_by, LocatedPlacesStay, LocatedWereFound, FreeAreNewest, HeadsStay, TargetsAreOther, FoundAreTargets, WholeRowsAreSought}
 use Rattle.head_laws.proofs.LikeLaw.{IsLike, images_stay}
 
 pub located_places_stay : LocatedPlacesStay
@@ -135,12 +135,18 @@ unreleased sh R own o n p born undo start h on f c = elim (cases_Bool (is_releas
 stays_of : (sh : Shape) (R : List Record) (own : Option ℕ) (o n : ℕ) (p : Rowid) (born : ℕ) (undo : UndoAddr) (start : ℕ) → AreAllowed sh R → IsOwn R own → (f : WasFound sh R own o n p born undo start) → changed_above R start n ≡ false → StaysSince sh f.list R o p.dba
 stays_of sh R own o n p born undo start h on f c = row_blocks_stay_since sh f.list R o p.dba h (later_extends (λ e. IsNotOf e (number_or_zero own)) f.list R f.later) f.table f.here (unreleased sh R own o n p born undo start h on f c)
 
+-- the extent of its block is still the one that was found
+pub born_now : (sh : Shape) (R : List Record) (own : Option ℕ) (o n : ℕ) (p : Rowid) (born : ℕ) (undo : UndoAddr) (start : ℕ) → AreAllowed sh R → IsOwn R own → WasFound sh R own o n p born undo start → changed_above R start n ≡ false → IsBornAt sh R o p.dba born
+born_now sh R own o n p born undo start h on f c =
+    let s = stays_of sh R own o n p born undo start h on f c in
+    let b = f.born_then in
+    record { index = b.index; extent = b.extent; at = s.same_extent b.index b.extent b.at b.has; has = b.has; born_is = b.born_is }
+
 pub free_are_newest : FreeAreNewest
 free_are_newest sh R own o n p born undo start h on f x =
     let t = number_or_zero own in
     let s = stays_of sh R own o n p born undo start h on f x.unchanged in
-    let b = f.born_then in
-    let at : IsBornAt sh R o p.dba born = record { index = b.index; extent = b.extent; at = s.same_extent b.index b.extent b.at b.has; has = b.has; born_is = b.born_is } in
+    let at = born_now sh R own o n p born undo start h on f x.unchanged in
     let tells = places_tell sh f.list R p.dba p.slot t n f.bytes h f.open_then (open_of R own on) (s.quiet t f.later) f.row in
     let now : (now_at R own p).undo ≡ Some undo = tells.same (ap (λ c. changed_above R c n) (sym f.start_is) ∙ x.unchanged) ∙ f.undo_is in
     let top : (image R p.dba p.slot).undo ≡ Some undo = elim (told_addr (image R p.dba p.slot).undo undo) [
@@ -187,6 +193,9 @@ targets_are_other sh R own o n p born undo start head b h on w x =
     }
 
 pub found_are_targets : FoundAreTargets
-found_are_targets sh R own o n p born undo start head len hint b s h on table w x e =
-    let t = found_takes sh R (sought_by own o len head p) hint b s h table e in
+found_are_targets sh R own o n p born undo start head len hint b s h on w x e =
+    let t = found_takes sh R (sought_by own o len head p) hint b s h x.write.table e in
     record { here = t.here; takes = t.takes; other = (targets_are_other sh R own o n p born undo start head b h on w x).other t.another }
+
+pub whole_rows_are_sought : WholeRowsAreSought
+whole_rows_are_sought sh R own o len p hint = refl

@@ -1,2 +1,3 @@
 pub mod LikeLaw
 pub mod HeadLaw
+pub mod NeedLaw

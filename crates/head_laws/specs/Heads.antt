@@ -72,6 +72,10 @@ TargetsAreOther =
 
 abbrev pub FoundAreTargets : Type 0
 FoundAreTargets =
-    (sh : Shape) (R : List Record) (own : Option ℕ) (o n : ℕ) (p : Rowid) (born : ℕ) (undo : UndoAddr) (start : ℕ) (head : Option Rowid) (len : ℕ) (hint : Option ℕ) (b : ℕ) → is_shape sh ≡ true → AreAllowed sh R → IsOwn R own → IsTable R o
+    (sh : Shape) (R : List Record) (own : Option ℕ) (o n : ℕ) (p : Rowid) (born : ℕ) (undo : UndoAddr) (start : ℕ) (head : Option Rowid) (len : ℕ) (hint : Option ℕ) (b : ℕ) → is_shape sh ≡ true → AreAllowed sh R → IsOwn R own
     → WasLocated sh R own o n p born undo start head → IsFreeNow R own o n p start → find_of sh R (sought_by own o len head p) hint ≡ Some (found.Block b)
     → MayBeTarget sh R own o (stand_at R p) len (Some b)
+
+-- for a row that stands whole the search is the one that leaves out its only block
+abbrev pub WholeRowsAreSought : Type 0
+WholeRowsAreSought = (sh : Shape) (R : List Record) (own : Option ℕ) (o len : ℕ) (p : Rowid) (hint : Option ℕ) → find_of sh R (sought_by own o len None p) hint ≡ find_of sh R (record { obj = o; len = len; taker = taker_of own; but = Some p.dba ∷ [] }) hint

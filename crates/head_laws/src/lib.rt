@@ -2,7 +2,8 @@
 //! that a block which is none of these two is another one. Each is the contract of a function that does nothing.
 #![tactic(auto)]
 
-ghost use Rattle.head_laws.specs.Heads.{FoundAreTargets, FreeAreNewest, HeadsStay, LocatedPlacesStay, LocatedWereFound, TargetsAreOther};
+ghost use Rattle.head_laws.specs.Heads.{FoundAreTargets, FreeAreNewest, HeadsStay, LocatedPlacesStay, LocatedWereFound, TargetsAreOther, WholeRowsAreSought};
+ghost use Rattle.head_laws.specs.Needs.{NeedsAreMet};
 
 /// A place that was located stays one, with its head, while its transaction adds nothing.
 pub fn located_places_stay()
@@ -33,4 +34,15 @@ pub fn targets_are_other()
 /// A block that such a search gives is one to which the row may go.
 pub fn found_are_targets()
     ensures { FoundAreTargets }
+{}
+
+/// Where an update of a row that was located answers that it needs a block, the row may go to the block that such a search gives,
+/// and the update with it is the migration there or finds undo full, in the same list.
+pub fn needs_are_met()
+    ensures { NeedsAreMet }
+{}
+
+/// A search that leaves out no head's block is the one that leaves out the place's block alone.
+pub fn whole_rows_are_sought()
+    ensures { WholeRowsAreSought }
 {}

@@ -9,3 +9,4 @@ pub mod Steps
 pub mod Changes
 pub mod RowTests
 pub mod NewRows
+pub mod Settlings

@@ -6,3 +6,4 @@ pub mod Tests
 pub mod Making
 pub mod Stepping
 pub mod Inserts
+pub mod Owing

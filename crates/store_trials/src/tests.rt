@@ -2,6 +2,7 @@
 // data blocks of the table that it belongs to are 43 to 46.
 mod bytes;
 mod full;
+mod moving;
 mod records;
 
 ghost use Rattle.std.specs.Prelude.{◌≤◌, length};

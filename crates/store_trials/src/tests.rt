@@ -3,6 +3,7 @@
 mod bytes;
 mod full;
 mod moving;
+mod opening;
 mod records;
 
 ghost use Rattle.std.specs.Prelude.{◌≤◌, length};

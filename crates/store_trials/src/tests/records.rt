@@ -1,5 +1,5 @@
-// The records of a small run, taken one by one, and what the log and the pages then have.
-use super::{BLOCK, bytes, formatted};
+// The records of a small run, one by one and as calls add them, and what the log and the pages then have.
+use super::{Answer, BLOCK, bytes, formatted, insert_row, make_table};
 use disk_model::{Disk, File, Memory};
 use page_set::Page;
 use redo_record::decode;
@@ -9,6 +9,7 @@ use std::alloc::Global;
 use std::test::Fail;
 use store_core::{Store, prepare};
 use txn_block::{State, TxnBlock};
+use txn_end::commit;
 
 // Adds the record of these bytes.
 fn take(alloc: Global, store: &mut Store<Memory>, bytes: &[u8]) -> Result<Lsn, Fail> {
@@ -129,5 +130,23 @@ fn nine_records_are_taken_and_replayed(rt: HostRuntime) -> Result<(), Fail> {
     assert_eq!(rt; (store.log_len(), store.commits()), (9, Scn(1)));
     assert!(rt; page_is(&mut store, BLOCK)?);
     assert!(rt; page_is(&mut store, Dba(TXN_TABLE_BLOCK))?);
+    Ok(())
+}
+
+#[test]
+fn calls_add_these_very_records(rt: HostRuntime) -> Result<(), Fail> {
+    let alloc = rt.alloc();
+    let mut disk = formatted(alloc)?;
+    let loaded = prepare(alloc, &mut disk)?;
+    let mut store = Store::over(&mut disk, loaded);
+    make_table(alloc, &mut store, 10)?;
+    assert_eq!(rt;
+        insert_row(alloc, &mut store, 1, b"hello"),
+        Answer::Row(1, 1)
+    );
+    assert_eq!(rt; commit(&mut store, TxnId(1)), Ok(Scn(1)));
+    assert_eq!(rt; take(alloc, &mut store, &bytes::CLEAN)?, Lsn(9));
+    assert_eq!(rt; store.flush_log(), Ok(()));
+    assert!(rt; has_both_groups(alloc, store.into_disk())?);
     Ok(())
 }

@@ -27,8 +27,8 @@ pub fn frames_come_so_far()
     ensures { FramesComeSoFar }
 {}
 
-/// After fewer than 2 to the 64th records, all allowed, the page of each block has a spelling and the block's own number: so what
-/// a batch writes of it reads as the page again.
+/// After fewer than 2 to the 64th less 1 records, all allowed, the page of each block has a spelling and the block's own number:
+/// so what a batch writes of it reads as the page again.
 pub fn pages_read_back()
     ensures { PagesReadBack }
 {}

@@ -10,3 +10,4 @@ pub mod Changes
 pub mod RowTests
 pub mod NewRows
 pub mod Settlings
+pub mod Fixings

@@ -7,3 +7,4 @@ pub mod Making
 pub mod Stepping
 pub mod Inserts
 pub mod Owing
+pub mod Fixing

@@ -3,6 +3,7 @@
 
 mod ending;
 mod event;
+mod fixing;
 mod inserting;
 mod naming;
 mod owed;
@@ -14,6 +15,7 @@ mod turned;
 
 pub use ending::{commit_own, roll_back, take_back};
 pub use event::{begin, finish, step_session};
+pub use fixing::fix;
 pub use inserting::{go_on_inserting, start_insert};
 pub use naming::{Named, find_named, is_log_full};
 pub use owed::{Owed, OwedBlock};

@@ -11,3 +11,5 @@ pub mod RowTests
 pub mod NewRows
 pub mod Settlings
 pub mod Fixings
+pub mod OnRows
+pub mod Deletes

@@ -5,6 +5,9 @@ use Rattle.seg_words.specs.Types.{Shape, Taker, is_shape}
 use Rattle.disk_model.specs.Crash.{Meaning}
 use Rattle.redo_record.specs.declared.record.Record.TheVariants as made
 use Rattle.redo_model.specs.Records.{Record}
+use Rattle.redo_model.specs.Lists.{Extends, same, more}
+use Rattle.session_model.specs.Doings.{Working}
+use Rattle.session_model.specs.Worlds.{IsReady}
 use Rattle.redo_model.specs.Model.{row_count, table_named, IsTable, IsRowSize, AreAllowed, IsLawful}
 use Rattle.space_laws.proofs.TablesLaw.{there}
 use Rattle.session_laws.specs.Sessions.{own_of, own_backed, backed_of}
@@ -37,6 +40,7 @@ use Rattle.history_model.specs.Passing.{FirstPass}
 use Rattle.history_laws.specs.Changing.{ChangeTells}
 use Rattle.history_laws.specs.Working.{later, InsertStands, Inserting}
 use Rattle.history_laws.specs.Refusals.{IsRefusedSo, IsPending}
+use Rattle.history_laws.proofs.Frames.{named_more}
 use Rattle.history_laws.proofs.Acting.{inserts_move, marks_leave_work}
 use Rattle.history_laws.proofs.Changing.{inserts_tell}
 use Rattle.history_laws.proofs.Passes.{accepted_passes, idle_at_once}
@@ -190,7 +194,7 @@ unfound_called meaning own a b f r e n h = subst (λ (z : Result Acted StoreFaul
 
 -- ---- the row
 
-own_acts : (sh : Shape) (R : List Record) (w : ℕ) (own : Option ℕ) → AreAllowed sh R → own_of R w ≡ own → IsOwn R own
+pub own_acts : (sh : Shape) (R : List Record) (w : ℕ) (own : Option ℕ) → AreAllowed sh R → own_of R w ≡ own → IsOwn R own
 own_acts sh R w None a e = tt
 own_acts sh R w (Some t) a e = active_own sh R w t a e
 
@@ -346,3 +350,13 @@ pub insert_refused : {D A : Type 0} (meaning : Meaning D) (x : Span) (name label
 insert_refused {D} {A} meaning x name label text own obj full y a b u at s h n f e =
     let st = asked.Insert name label text in
     acted_told {A = A} meaning x (Some st) own a b u (record { turned = turned.Over (outcome.Refused y) kept.Nothing; own = own }) at h (first_turns a.shape x st y own s (rows_refused a.shape x st name obj full y (insert_of_rows a.shape x name label text) n f e) at.own_is)
+
+-- ---- under way
+
+-- a name is its table's in each longer list
+pub still_named : (sh : Shape) (Q R : List Record) (name : List ℕ) (o : ℕ) → Extends Q R → AreAllowed sh R → table_named Q name ≡ Some o → table_named R name ≡ Some o
+still_named sh P _ name o same a e = e
+still_named sh P _ name o (more {Q} r h) a e = named_more sh Q r name o a.1.kind (still_named sh P Q name o h a.0 e)
+
+pub insert_under_way : (sh : Shape) (x : Span) (name label text : List ℕ) (o : ℕ) → IsReady sh x (Some (asked.Insert name label text)) (Working (Inserting o)) → Extends x.begun x.ended → AreAllowed sh x.ended → own_backed x.ended x.session ≡ false → IsInserting sh x name label text o
+insert_under_way sh x name label text o r e a w = record { passed = r.0; stands = r.1; still = still_named sh x.begun x.ended name o e a r.1.table; whole = w }

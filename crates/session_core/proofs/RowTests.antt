@@ -9,12 +9,13 @@ use Rattle.script_text.specs.declared.statement.Target.{Target}
 use Rattle.history_text.specs.declared.refusal.Refusal.{Refusal}
 use Rattle.history_text.specs.declared.refusal.Refusal.TheVariants as why
 use Rattle.history_model.specs.declared.limit.TheConstants.{NEW_WORK_RECORDS}
-use Rattle.history_model.specs.Spans.{Span}
+use Rattle.history_model.specs.Spans.{Span, table_asked}
 use Rattle.history_model.specs.Causes.{IsNoTable, IsTableThere, IsTooManyTables, IsMovementOff, IsTransactionOpen, IsShrinkBusy, IsLogFull, IsNotDataBlock, IsBadValue, IsUnbound}
 use Rattle.history_model.specs.Passing.{FirstPass}
-use Rattle.history_laws.proofs.Owned.{none_some}
+use Rattle.history_laws.proofs.Owned.{none_some, same_some}
 use Rattle.session_core.specs.Starting.{IsRefusedFirst, IsFullAt}
 use Rattle.session_core.specs.Inserts.{tested_named}
+use Rattle.session_core.specs.Changes.{HasPassedTests, IsRowChange}
 use Rattle.session_core.proofs.Checks.{pass_before}
 
 -- what is tested of the statement: its table, by its name, and the log
@@ -97,11 +98,6 @@ rows_refused sh x st name (Some p) full y k o f e =
 
 -- ---- it passes
 
--- its table is there, and the log isn't full
-pub record HasPassedTests (x : Span) (st : Statement) (name : List ℕ) (o : ℕ) : Type 0 where
-  pub table : table_named x.begun name ≡ Some o
-  pub not_full : IsLogFull x st → ⊥
-
 pub rows_passed : (sh : Shape) (x : Span) (st : Statement) (name : List ℕ) (obj : Option ℕ) (full : Bool) (o : ℕ) → IsOfRows sh x st name → obj ≡ table_named x.begun name → IsFullAt x.begun full → tested_named obj full ≡ Ok o → HasPassedTests x st name o
 rows_passed sh x st name None full o k n f e = absurd cc
 rows_passed sh x st name (Some p) full o k n f e =
@@ -123,4 +119,29 @@ rows_first sh x st name o k p b = record {
   data_block = k.data_block;
   value = k.value;
   label = b;
+}
+
+-- ---- an update or a delete
+
+pub change_of_rows : (sh : Shape) (x : Span) (st : Statement) (name : List ℕ) → IsRowChange st → table_asked st ≡ Some name → IsOfRows sh x st name
+change_of_rows sh x (asked.Update n target text) name k e = subst (λ (m : List ℕ). IsOfRows sh x (asked.Update n target text) m) (same_some n name e) (update_of_rows sh x n target text)
+change_of_rows sh x (asked.Delete n target) name k e = subst (λ (m : List ℕ). IsOfRows sh x (asked.Delete n target) m) (same_some n name e) (delete_of_rows sh x n target)
+change_of_rows sh x st name k e = absurd k
+
+pub unbound_first : (sh : Shape) (x : Span) (st : Statement) (name l : List ℕ) (o : ℕ) → IsOfRows sh x st name → HasPassedTests x st name o → IsUnbound x st l → IsRefusedFirst sh x st (why.Unbound l)
+unbound_first sh x st name l o k p u = record {
+  first = refl;
+  cause = u;
+  before = pass_before sh x st 9 (omega arith) (record {
+    table = λ _ h. none_some o ⊥ (sym (k.there h) ∙ p.table);
+    new_name = λ _ h. k.new_name h;
+    few_tables = λ _ h. k.few_tables h;
+    movement = λ _ h. k.movement h;
+    no_transaction = λ _ h. k.no_transaction h;
+    unshrunk = λ _ v h. k.unshrunk v h;
+    log = λ _ h. p.not_full h;
+    data_block = λ _ c h. k.data_block c h;
+    value = λ _ c h. k.value c h;
+    label = λ b c h. yes b;
+  });
 }

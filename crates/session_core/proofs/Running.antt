@@ -1,11 +1,11 @@
 -- What an event leads to, from its start to its entry.
-use Rattle.std.proofs.Common.{◌≡◌, ℕ, suc, ◌≤◌, ◌<◌, ◌^◌, false, cond, eqb, ne_eqb, eq-eqb, List, ◌∷◌, length, Option, Some, None, refl, sym, ◌∙◌, ap, ap₂, subst}
+use Rattle.std.proofs.Common.{◌≡◌, ◌≢◌, [], le_trans, le_refl, ℕ, suc, ◌≤◌, ◌<◌, ◌^◌, false, cond, eqb, ne_eqb, eq-eqb, List, ◌∷◌, length, Option, Some, None, refl, sym, ◌∙◌, ap, ap₂, subst}
 use Rattle.std.specs.Prelude.{slice_get, Result, Ok, Err}
 use Rattle.seg_words.proofs.Lemmas.{cond-true, cond-false}
 use Rattle.seg_words.specs.Types.{Shape}
 use Rattle.disk_model.specs.Crash.{Meaning}
 use Rattle.redo_model.specs.Records.{Record}
-use Rattle.redo_model.specs.Model.{Extends, IsLawful}
+use Rattle.redo_model.specs.Model.{Extends, AreAllowed, IsLawful}
 use Rattle.redo_laws.proofs.lists.Prefixes.{prefix_longer}
 use Rattle.session_laws.specs.Sessions.{own_of, own_backed}
 use Rattle.script_text.specs.declared.statement.Statement.{Statement}
@@ -14,7 +14,7 @@ use Rattle.history_text.specs.declared.outcome.Outcome.{Outcome}
 use Rattle.history_model.specs.declared.history.HistoryItem.{HistoryItem}
 use Rattle.history_model.specs.declared.history.HistoryItem.TheVariants as item
 use Rattle.history_text.specs.declared.entry.Entry.{Entry}
-use Rattle.history_model.specs.History.{Task, script_of, statement_of, ordinal_of}
+use Rattle.history_model.specs.History.{Task, script_of, statement_of, ordinal_of, AreInTime}
 use Rattle.history_model.specs.Spans.{Span}
 use Rattle.history_model.specs.Legal.{IsLegal}
 use Rattle.history_laws.specs.Working.{now_of, later}
@@ -24,6 +24,8 @@ use Rattle.session_model.specs.Sessions.{Session, session_since}
 use Rattle.session_model.specs.Worlds.{IsWorld, IsReady, Midway, Acts, GoesOn, IsOverWith, IsNext}
 use Rattle.session_model.specs.Laws.{Binds}
 use Rattle.session_model.proofs.Alone.{done_extends}
+use Rattle.history_laws.proofs.Frames.{events_leave_transactions}
+use Rattle.session_model.proofs.Going.{acts_go}
 use Rattle.session_model.proofs.Events.{events_go_on, events_end, events_fail}
 use Rattle.store_core.specs.Store.{Held, IsTrue}
 use Rattle.store_core.specs.Causes.{IsSoundFault}
@@ -74,11 +76,26 @@ acted_now meaning scripts script R0 R T sessions labels w task s a b r e stands 
     (subst (λ (o : Option Statement). IsReady a.shape (now_of scripts R w task) o (doing_of s.doing)) (sym (at_place scripts script w s.told e)) m.ready)
     m.whole (λ z n. m.closing (sym (at_place scripts script w s.told e) ∙ z) (own ∙ n))
 
+-- ---- what it leaves of the others, and its moment
+
+others_keep : (sh : Shape) (scripts : List (List Statement)) (R0 Q R : List Record) (T : List HistoryItem) (sessions : ℕ → Session) (labels : List ℕ → Option ℕ) (w : ℕ) (task : Task) (s : Session) → AreAllowed sh R → Midway sh scripts R0 Q T sessions labels w task s
+    → Acts sh (now_of scripts Q w task) (statement_of scripts w s.told) R → (v : ℕ) → v ≢ w → own_of R v ≡ own_of Q v
+others_keep sh scripts R0 Q R T sessions labels w task s a m x v ne = events_leave_transactions sh scripts T w Q R v a (λ z. ne (sym z)) (acts_go sh scripts R0 Q T sessions labels w task s R m a x).goes
+
+later_in_time : (m n : ℕ) (T : List HistoryItem) → m ≤ n → AreInTime m T → AreInTime n T
+later_in_time m n [] l h = tt
+later_in_time m n (item.Started s ∷ T) l h = later_in_time m n T l h
+later_in_time m n (item.Told e k ∷ T) l h = (le_trans h.0 l, h.1)
+
+finished_in_time : (w k n moment before now : ℕ) (v : Turned) (own : Option ℕ) (s t : Told) (T U : List HistoryItem) → moment ≡ now → before ≤ now → Finishes w k n moment (record { turned = v; own = own }) s t T U → AreInTime before T → AreInTime now U
+finished_in_time w k n moment before now (turned.On d) own s t T U clock l f h = subst (AreInTime now) (sym f.1) (later_in_time before now T l h)
+finished_in_time w k n moment before now (turned.Over outcome kept) own s t T U clock l f h = subst (AreInTime now) (sym f.1) (subst (λ (z : ℕ). z ≤ now) (sym clock) (le_refl now), subst (λ (z : ℕ). AreInTime z T) (sym clock) (later_in_time before now T l h))
+
 -- ---- an event that fails
 
 pub run_fails : {D : Type 0} (meaning : Meaning D) (scripts : List (List Statement)) (script : List Statement) (R0 R : List Record) (T : List HistoryItem) (sessions : ℕ → Session) (labels : List ℕ → Option ℕ) (w : ℕ) (task : Task) (s t : Told) (a b : Held D) (U : List HistoryItem) (r : Result Acted StoreFault)
     (f : StoreFault) → b.shape ≡ a.shape → U ≡ T → IsSoundFault f → script_of scripts w ≡ script → Midway a.shape scripts R0 R T sessions labels w task (session_of s) → HasActed meaning (now_of scripts R w task) (slice_get script s.told) a b r
-    → HasRun meaning scripts R0 R sessions labels w a b U t (Err f)
+    → HasRun meaning scripts R0 R sessions labels w a b T U t (Err f)
 run_fails meaning scripts script R0 R T sessions labels w task s t a b U r f shape alike sound e m h = record {
   records = h.records;
   stands = h.stands;
@@ -90,6 +107,9 @@ run_fails meaning scripts script R0 R T sessions labels w task s t a b U r f sha
       (acts_as a.shape (now_of scripts R w task) (slice_get script s.told) (statement_of scripts w s.told) h.records (at_place scripts script w s.told e) h.acts));
   world = tt;
   own = tt;
+  others = others_keep a.shape scripts R0 R h.records T sessions labels w task (session_of s) (subst (λ (z : Shape). IsLawful z h.records) shape h.stands.lawful).allowed m
+      (acts_as a.shape (now_of scripts R w task) (slice_get script s.told) (statement_of scripts w s.told) h.records (at_place scripts script w s.told e) h.acts);
+  in_time = λ z. subst (AreInTime (meaning.clock b.disk)) (sym alike) (later_in_time (meaning.clock a.disk) (meaning.clock b.disk) T h.time z);
   sound = sound;
 }
 
@@ -136,9 +156,9 @@ finished_own w n k moment (turned.On d) own s t T U f = ap (λ (z : Told). z.own
 finished_own w n k moment (turned.Over outcome kept) own s t T U f = ap (λ (z : Told). z.own) f.0
 
 pub run_done : {D : Type 0} (meaning : Meaning D) (scripts : List (List Statement)) (script : List Statement) (R0 R : List Record) (T : List HistoryItem) (sessions : ℕ → Session) (labels : List ℕ → Option ℕ) (w : ℕ) (task : Task) (s t : Told) (a b : Held D) (U : List HistoryItem) (z : Acted) (n moment : ℕ)
-    → b.shape ≡ a.shape → script_of scripts w ≡ script → AllBuilt script → Midway a.shape scripts R0 R T sessions labels w task (session_of s) → (h : HasActed meaning (now_of scripts R w task) (slice_get script s.told) a b (Ok z)) → n ≡ length h.records
-    → Finishes w (length script) n moment z s t T U → HasRun meaning scripts R0 R sessions labels w a b U t (Ok tt)
-run_done meaning scripts script R0 R T sessions labels w task s t a b U z n moment shape e built m h l f = record {
+    → b.shape ≡ a.shape → script_of scripts w ≡ script → AllBuilt script → Midway a.shape scripts R0 R T sessions labels w task (session_of s) → (h : HasActed meaning (now_of scripts R w task) (slice_get script s.told) a b (Ok z)) → n ≡ length h.records → moment ≡ meaning.clock b.disk
+    → Finishes w (length script) n moment z s t T U → HasRun meaning scripts R0 R sessions labels w a b T U t (Ok tt)
+run_done meaning scripts script R0 R T sessions labels w task s t a b U z n moment shape e built m h l clock f = record {
   records = h.records;
   stands = h.stands;
   stable = h.stable;
@@ -147,6 +167,8 @@ run_done meaning scripts script R0 R T sessions labels w task s t a b U z n mome
   legal = (world (next_sessions a.shape w (length R) h.records sessions (session_of t)) (next_is a.shape scripts w (length R) h.records sessions (session_of t))).legal;
   world = world;
   own = h.turns.own ∙ sym (finished_own w (length script) n moment z.turned z.own s t T U f);
+  others = others_keep a.shape scripts R0 R h.records T sessions labels w task (session_of s) (subst (λ (y : Shape). IsLawful y h.records) shape h.stands.lawful).allowed m (acts_as a.shape (now_of scripts R w task) (slice_get script s.told) (statement_of scripts w s.told) h.records place h.acts);
+  in_time = finished_in_time w (length script) n moment (meaning.clock a.disk) (meaning.clock b.disk) z.turned z.own s t T U clock h.time f;
   sound = tt;
 }
   where

@@ -1,6 +1,6 @@
 -- One event of a session in a run.
 use Rattle.std.proofs.Common.{◌≡◌, ◌≢◌, ◌⊎◌, ℕ, ◌≤◌, ◌<◌, eqb, eqb-true, List, ◌∷◌, length, Option, None, refl, sym, ◌∙◌, ap, subst, le_refl, inl, inr, arith}
-use Rattle.std.specs.Prelude.{Ok, Err}
+use Rattle.std.specs.Prelude.{Ok, Err, Result}
 use Rattle.seg_words.proofs.Lemmas.{cases_Bool, eqb-false}
 use Rattle.seg_words.specs.Types.{Shape}
 use Rattle.disk_model.specs.Crash.{Meaning}
@@ -9,7 +9,7 @@ use Rattle.session_laws.specs.Sessions.{own_of}
 use Rattle.script_text.specs.declared.statement.Statement.{Statement}
 use Rattle.history_model.specs.declared.history.HistoryItem.{HistoryItem}
 use Rattle.history_model.specs.declared.history.HistoryItem.TheVariants as item
-use Rattle.history_model.specs.History.{IsSession, Task, task_of, script_of}
+use Rattle.history_model.specs.History.{IsSession, Task, task_of, script_of, AreInTime}
 use Rattle.history_model.specs.Legal.{IsLegal}
 use Rattle.history_laws.specs.Telling.{start_now}
 use Rattle.session_model.specs.Doings.{Waiting, ShrinksOn}
@@ -38,11 +38,13 @@ busy_of : (d : ToldDoing) → d ≢ told.Waiting → doing_of d ≢ Waiting
 busy_of told.Waiting ne e = ne refl
 busy_of (told.Inserting o) ne e = absurd (cc e)
 busy_of (told.TakingBack t) ne e = absurd (cc e)
+busy_of (told.OnRow k) ne e = absurd (cc e)
 
 told_waiting : (d : ToldDoing) → doing_of d ≡ Waiting → d ≡ told.Waiting
 told_waiting told.Waiting e = refl
 told_waiting (told.Inserting o) e = absurd (cc e)
 told_waiting (told.TakingBack t) e = absurd (cc e)
+told_waiting (told.OnRow k) e = absurd (cc e)
 
 doing_at : (sessions : ℕ → Session) (w : ℕ) (s : Told) → sessions w ≡ session_of s → (sessions w).doing ≡ doing_of s.doing
 doing_at sessions w s e = ap (λ (z : Session). z.doing) e
@@ -52,7 +54,7 @@ told_at sessions w s e = ap (λ (z : Session). z.told) e
 
 -- ---- nothing was done
 
-world_as : (sh : Shape) (scripts : List (List Statement)) (R0 R : List Record) (T : List HistoryItem) (sessions next : ℕ → Session) (labels : List ℕ → Option ℕ) → ((v : ℕ) → IsSession scripts v → next v ≡ sessions v) → IsWorld sh scripts R0 R T sessions labels → IsWorld sh scripts R0 R T next labels
+pub world_as : (sh : Shape) (scripts : List (List Statement)) (R0 R : List Record) (T : List HistoryItem) (sessions next : ℕ → Session) (labels : List ℕ → Option ℕ) → ((v : ℕ) → IsSession scripts v → next v ≡ sessions v) → IsWorld sh scripts R0 R T sessions labels → IsWorld sh scripts R0 R T next labels
 world_as sh scripts R0 R T sessions next labels e h = record {
   legal = h.legal;
   fit = λ v session. subst (Fits sh scripts R T v) (sym (e v session)) (h.fit v session);
@@ -68,7 +70,7 @@ same_next sh scripts w R sessions next is v session = elim (cases_Bool (eqb v w)
 ]
 
 unchanged_run : {D : Type 0} (meaning : Meaning D) (scripts : List (List Statement)) (R0 R : List Record) (T : List HistoryItem) (sessions : ℕ → Session) (labels : List ℕ → Option ℕ) (w : ℕ) (a : Held D) (s : Told) → IsTrue meaning R a → own_of R w ≡ s.own → sessions w ≡ session_of s
-    → IsWorld a.shape scripts R0 R T sessions labels → HasRun meaning scripts R0 R sessions labels w a a T s (Ok tt)
+    → IsWorld a.shape scripts R0 R T sessions labels → HasRun meaning scripts R0 R sessions labels w a a T T s (Ok tt)
 unchanged_run meaning scripts R0 R T sessions labels w a s stands own at h = record {
   records = R;
   stands = stands;
@@ -78,11 +80,13 @@ unchanged_run meaning scripts R0 R T sessions labels w a s stands own at h = rec
   legal = h.legal;
   world = λ next is. world_as a.shape scripts R0 R T sessions next labels (same_next a.shape scripts w R sessions next (subst (IsNext a.shape scripts w (length R) R sessions next) (sym at) is)) h;
   own = own;
+  others = λ v ne. refl;
+  in_time = λ z. z;
   sound = tt;
 }
 
 failed_run : {D : Type 0} (meaning : Meaning D) (scripts : List (List Statement)) (R0 R : List Record) (T U : List HistoryItem) (sessions : ℕ → Session) (labels : List ℕ → Option ℕ) (w : ℕ) (a : Held D) (t : Told) → U ≡ T → IsTrue meaning R a → IsWorld a.shape scripts R0 R T sessions labels
-    → HasRun meaning scripts R0 R sessions labels w a a U t (Err NoMemory)
+    → HasRun meaning scripts R0 R sessions labels w a a T U t (Err NoMemory)
 failed_run meaning scripts R0 R T U sessions labels w a t same stands h = record {
   records = R;
   stands = stands;
@@ -92,6 +96,8 @@ failed_run meaning scripts R0 R T U sessions labels w a t same stands h = record
   legal = subst (IsLegal a.shape scripts R0 R) (sym same) h.legal;
   world = tt;
   own = tt;
+  others = λ v ne. refl;
+  in_time = λ z. subst (AreInTime (meaning.clock a.disk)) (sym same) z;
   sound = tt;
 }
 
@@ -150,6 +156,7 @@ is_waiting : (d : ToldDoing) → (d ≡ told.Waiting) ⊎ (d ≢ told.Waiting)
 is_waiting told.Waiting = inl refl
 is_waiting (told.Inserting o) = inr (λ e. absurd (cc e))
 is_waiting (told.TakingBack t) = inr (λ e. absurd (cc e))
+is_waiting (told.OnRow k) = inr (λ e. absurd (cc e))
 
 started_midst : (sh : Shape) (scripts : List (List Statement)) (script : List Statement) (R0 R : List Record) (T U : List HistoryItem) (sessions : ℕ → Session) (labels : List ℕ → Option ℕ) (w n : ℕ) (s t : Told) → n ≡ length R → IsSession scripts w → script_of scripts w ≡ script → own_of R w ≡ s.own → sessions w ≡ session_of s
     → IsWorld sh scripts R0 R T sessions labels → IsStarted w (length script) n s t T U → InMidst sh scripts R0 R T U sessions labels w t
@@ -193,10 +200,34 @@ begun_own w k n s t T U on first = elim (is_waiting s.doing) [
   | inr y ↦ ap (λ (z : Told). z.own) (on y).now
 ]
 
-pub step_ran : {D : Type 0} (meaning : Meaning D) (scripts : List (List Statement)) (R0 R : List Record) (sessions : ℕ → Session) (labels : List ℕ → Option ℕ) (w : ℕ) (a b : Held D) (T U : List HistoryItem) (s t : Told) → (HasEnded scripts R T w → ⊥) → HasRun meaning scripts R0 R sessions labels w a b U t (Ok tt)
-    → HasStepped meaning scripts R0 R sessions labels w a b T U s t (Ok turns.Made)
-step_ran meaning scripts R0 R sessions labels w a b T U s t not_ended h = record { run = h; turn = not_ended }
+-- a start has no moment
+pub begun_in_time : (w k n m : ℕ) (s t : Told) (T U : List HistoryItem) → (s.doing ≢ told.Waiting → GoesOnWith s t T U) → (s.doing ≡ told.Waiting → IsStarted w k n s t T U) → AreInTime m T → AreInTime m U
+begun_in_time w k n m s t T U on first h = elim (is_waiting s.doing) [
+  | inl y ↦ subst (AreInTime m) (sym (first y).tells) h
+  | inr y ↦ subst (AreInTime m) (sym (on y).tells) h
+]
 
-pub step_ran_not : {D : Type 0} (meaning : Meaning D) (scripts : List (List Statement)) (R0 R : List Record) (sessions : ℕ → Session) (labels : List ℕ → Option ℕ) (w : ℕ) (a b : Held D) (T U : List HistoryItem) (s t : Told) (f : StoreFault) → HasRun meaning scripts R0 R sessions labels w a b U t (Err f)
-    → HasStepped meaning scripts R0 R sessions labels w a b T U s t (Err f)
-step_ran_not meaning scripts R0 R sessions labels w a b T U s t f h = record { run = h; turn = tt }
+-- counted from before the start
+ran_from : {D : Type 0} (meaning : Meaning D) (scripts : List (List Statement)) (R0 R : List Record) (sessions : ℕ → Session) (labels : List ℕ → Option ℕ) (w : ℕ) (a b : Held D) (S T U : List HistoryItem) (t : Told) (r : Result (Unit {0}) StoreFault) → (AreInTime (meaning.clock a.disk) S → AreInTime (meaning.clock a.disk) T)
+    → HasRun meaning scripts R0 R sessions labels w a b T U t r → HasRun meaning scripts R0 R sessions labels w a b S U t r
+ran_from meaning scripts R0 R sessions labels w a b S T U t r k h = record {
+  records = h.records;
+  stands = h.stands;
+  stable = h.stable;
+  survives = h.survives;
+  time = h.time;
+  legal = h.legal;
+  world = h.world;
+  own = h.own;
+  others = h.others;
+  in_time = λ z. h.in_time (k z);
+  sound = h.sound;
+}
+
+pub step_ran : {D : Type 0} (meaning : Meaning D) (scripts : List (List Statement)) (R0 R : List Record) (sessions : ℕ → Session) (labels : List ℕ → Option ℕ) (w : ℕ) (a b : Held D) (S T U : List HistoryItem) (s t : Told) → (AreInTime (meaning.clock a.disk) S → AreInTime (meaning.clock a.disk) T)
+    → (HasEnded scripts R S w → ⊥) → HasRun meaning scripts R0 R sessions labels w a b T U t (Ok tt) → HasStepped meaning scripts R0 R sessions labels w a b S U s t (Ok turns.Made)
+step_ran meaning scripts R0 R sessions labels w a b S T U s t k not_ended h = record { run = ran_from meaning scripts R0 R sessions labels w a b S T U t (Ok tt) k h; turn = not_ended }
+
+pub step_ran_not : {D : Type 0} (meaning : Meaning D) (scripts : List (List Statement)) (R0 R : List Record) (sessions : ℕ → Session) (labels : List ℕ → Option ℕ) (w : ℕ) (a b : Held D) (S T U : List HistoryItem) (s t : Told) (f : StoreFault) → (AreInTime (meaning.clock a.disk) S → AreInTime (meaning.clock a.disk) T)
+    → HasRun meaning scripts R0 R sessions labels w a b T U t (Err f) → HasStepped meaning scripts R0 R sessions labels w a b S U s t (Err f)
+step_ran_not meaning scripts R0 R sessions labels w a b S T U s t f k h = record { run = ran_from meaning scripts R0 R sessions labels w a b S T U t (Err f) k h; turn = tt }

@@ -1,3 +1,4 @@
+pub mod RowWorks
 pub mod Doings
 pub mod Acting
 pub mod Starting
@@ -8,3 +9,4 @@ pub mod Stepping
 pub mod Inserts
 pub mod Owing
 pub mod Fixing
+pub mod Changes

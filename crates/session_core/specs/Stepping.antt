@@ -7,6 +7,7 @@ use Rattle.script_text.specs.declared.statement.Statement.{Statement}
 use Rattle.script_text.specs.declared.statement.Statement.TheVariants as asked
 use Rattle.history_model.specs.declared.history.HistoryItem.{HistoryItem}
 use Rattle.history_model.specs.declared.history.HistoryItem.TheVariants as item
+use Rattle.history_model.specs.History.{AreInTime}
 use Rattle.history_model.specs.Legal.{IsLegal}
 use Rattle.session_model.specs.Sessions.{Session, HasEnded}
 use Rattle.session_model.specs.Worlds.{IsWorld, IsNext}
@@ -71,9 +72,9 @@ IsBuilt asked.Commit = Unit {0}
 IsBuilt asked.Rollback = Unit {0}
 IsBuilt st = ⊥
 
--- From the records R the event led to these, all legal with the history, also where it failed; where it didn't, the sessions are
--- as the history says.
-pub record HasRun {D : Type 0} (meaning : Meaning D) (scripts : List (List Statement)) (R0 R : List Record) (sessions : ℕ → Session) (labels : List ℕ → Option ℕ) (who : ℕ) (old new : Held D) (U : List HistoryItem) (t : Told) (result : Result (Unit {0}) StoreFault) : Type 0 where
+-- From the records R and the history T the event led to these records and to U, all legal, also where it failed; where it didn't,
+-- the sessions are as the history says. No other session's transaction changed.
+pub record HasRun {D : Type 0} (meaning : Meaning D) (scripts : List (List Statement)) (R0 R : List Record) (sessions : ℕ → Session) (labels : List ℕ → Option ℕ) (who : ℕ) (old new : Held D) (T U : List HistoryItem) (t : Told) (result : Result (Unit {0}) StoreFault) : Type 0 where
   pub records : List Record
   pub stands : IsTrue meaning records new
   pub stable : old.log.stable ≤ new.log.stable
@@ -82,6 +83,8 @@ pub record HasRun {D : Type 0} (meaning : Meaning D) (scripts : List (List State
   pub legal : IsLegal old.shape scripts R0 records U
   pub world : OnOk result ((next : ℕ → Session) → IsNext old.shape scripts who (length R) records sessions next (session_of t) → IsWorld old.shape scripts R0 records U next labels)
   pub own : OnOk result (own_of records who ≡ t.own)
+  pub others : (v : ℕ) → v ≢ who → own_of records v ≡ own_of R v
+  pub in_time : AreInTime (meaning.clock old.disk) T → AreInTime (meaning.clock new.disk) U
   pub sound : IfErr result IsSoundFault
 
 -- what of an answer is the store's
@@ -101,5 +104,5 @@ TurnIs scripts R who old new T U s t turns.Ended = HasEnded scripts R T who × I
 
 -- Of a session in a run: at Made an event was made, and the session hadn't ended; at Ended it had, and nothing was done.
 pub record HasStepped {D : Type 0} (meaning : Meaning D) (scripts : List (List Statement)) (R0 R : List Record) (sessions : ℕ → Session) (labels : List ℕ → Option ℕ) (who : ℕ) (old new : Held D) (T U : List HistoryItem) (s t : Told) (result : Result Turn StoreFault) : Type 0 where
-  pub run : HasRun meaning scripts R0 R sessions labels who old new U t (done_part result)
+  pub run : HasRun meaning scripts R0 R sessions labels who old new T U t (done_part result)
   pub turn : IfOk result (TurnIs scripts R who old new T U s t)

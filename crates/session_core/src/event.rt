@@ -43,7 +43,7 @@ pub fn begin(
     ensures failed { OnErr result (history.new ≡ history.old) }
 {
     match session.doing {
-        Doing::Inserting(_) | Doing::TakingBack(_) => return Ok(true),
+        Doing::Inserting(_) | Doing::TakingBack(_) | Doing::OnRow(_) => return Ok(true),
         Doing::Waiting => {}
     }
     if session.told >= statements && session.own.is_none() {
@@ -122,6 +122,7 @@ fn roll<D: Disk>(
         Doing::TakingBack(txn) => take_back(alloc, store, txn),
         Doing::Waiting => roll_back(alloc, store, own),
         Doing::Inserting(_) => roll_back(alloc, store, own),
+        Doing::OnRow(_) => roll_back(alloc, store, own),
     }
 }
 
@@ -191,7 +192,7 @@ fn run_statement<D: Disk>(
     requires built { (i : ℕ) (st : TheStatement) → slice_get script.now i ≡ Some st → IsBuilt st }
     requires short { length script.now < 2 ^ 32 - 1 }
     requires few { session.old.told ≤ length script.now }
-    ensures ran { (scripts : List (List TheStatement)) (R0 R : List Record) (sessions : ℕ → TheSession) (labels : List ℕ → Option ℕ) (task : Task) → script_of scripts who ≡ script.now → IsTrue D.meaning R store.old → suc (length R) < 2 ^ 64 → own_of R who ≡ session.old.own → Midway store.old.shape scripts R0 R history.old sessions labels who task (session_of session.old) → HasRun D.meaning scripts R0 R sessions labels who store.old store.new history.new session.new result }
+    ensures ran { (scripts : List (List TheStatement)) (R0 R : List Record) (sessions : ℕ → TheSession) (labels : List ℕ → Option ℕ) (task : Task) → script_of scripts who ≡ script.now → IsTrue D.meaning R store.old → suc (length R) < 2 ^ 64 → own_of R who ≡ session.old.own → Midway store.old.shape scripts R0 R history.old sessions labels who task (session_of session.old) → HasRun D.meaning scripts R0 R sessions labels who store.old store.new history.old history.new session.new result }
     ensures called { HasCalled D.meaning store.old store.new result }
 {
     match act_next(

@@ -1,6 +1,7 @@
 //! The world: the sessions of a run over a store, one event a step.
 #![tactic(auto)]
 
+mod changing;
 mod ending;
 mod event;
 mod fixing;
@@ -13,13 +14,14 @@ mod tables;
 mod testing;
 mod turned;
 
+pub use changing::{delete_row, locate_row, start_on_row};
 pub use ending::{commit_own, roll_back, take_back};
 pub use event::{begin, finish, step_session};
 pub use fixing::fix;
 pub use inserting::{go_on_inserting, start_insert};
 pub use naming::{Named, find_named, is_log_full};
 pub use owed::{Owed, OwedBlock};
-pub use session::{Doing, Session, Turn};
+pub use session::{Doing, RowWork, Session, Starts, Turn};
 pub use settling::{settle_block, settle_owed};
 pub use tables::{make_table, set_movement};
 pub use turned::{Acted, Turned, over, refused};

@@ -1,5 +1,7 @@
 // A session between its events.
-use seg_base::{Lsn, Obj, TxnId};
+use history_model::MOST_STARTS;
+use row_change::Place;
+use seg_base::{Lsn, Obj, RowNo, Scn, TxnId};
 
 /// What a session is at: it waits with its next statement, or with what is under way.
 #[derive(Clone, Copy, Debug, PartialEq, Eq, Drop)]
@@ -9,6 +11,8 @@ pub enum Doing {
     Inserting(Obj),
     /// A transaction is taken back, record by record.
     TakingBack(TxnId),
+    /// An update or a delete looks for its row, or has found it.
+    OnRow(RowWork),
 }
 
 /// A session: how many of its statements have their entry, with how many records the one under way began, what it is at, and
@@ -27,4 +31,20 @@ pub enum Turn {
     Made,
     /// The session has ended, and nothing was done.
     Ended,
+}
+
+/// The numbers of commits that ended the starts of an update or a delete so far: the first `count` of them, in order.
+#[derive(Clone, Copy, Debug, PartialEq, Eq, Drop)]
+pub struct Starts {
+    pub commits: [Scn; MOST_STARTS],
+    pub count: u8,
+}
+
+/// An update or a delete at work: its table and row, its starts so far, and where the row was found at the present one.
+#[derive(Clone, Copy, Debug, PartialEq, Eq, Drop)]
+pub struct RowWork {
+    pub obj: Obj,
+    pub row: RowNo,
+    pub starts: Starts,
+    pub place: Option<Place>,
 }

@@ -1,4 +1,4 @@
-use Rattle.session_core.proofs.Dispatch.{back_on, back_at, may_roll, waits_starting, never_inserts}
+use Rattle.session_core.proofs.Dispatch.{back_on, back_at, may_roll, waits_starting, never_inserts, never_on_row}
 use Rattle.session_core.proofs.event.roll.Goals as goal
 
 pub returns-in-TakingBack-clause-acted : goal.returns-in-TakingBack-clause-acted
@@ -12,3 +12,6 @@ returns-in-Waiting-clause-acted g c = λ x st k at r w closing.
 
 pub returns-in-Inserting-clause-acted : goal.returns-in-Inserting-clause-acted
 returns-in-Inserting-clause-acted g c = λ x st k at r w closing. absurd (never_inserts c.args.store.now.shape x st c.args.doing c.in-Inserting.field-0 k c.in-Inserting.is r)
+
+pub returns-in-OnRow-clause-acted : goal.returns-in-OnRow-clause-acted
+returns-in-OnRow-clause-acted g c = λ x st k at r w closing. absurd (never_on_row c.args.store.now.shape x st c.args.doing c.in-OnRow.field-0 k c.in-OnRow.is r)

@@ -21,7 +21,7 @@ returns-in-Ok-finish-clause-ran g c = λ scripts R0 R sessions labels task e t f
     let b = c.act_next.new.store in
     let h = acted_now M scripts c.args.script.now R0 R c.args.history.now sessions labels c.args.who task s a b (Ok c.in-Ok.acted) e t c.requires.unspent few own m c.in-Ok.ensures.acted in
     run_done M scripts c.args.script.now R0 R c.args.history.now sessions labels c.args.who task s c.finish.new.session a b c.finish.new.history c.in-Ok.acted c.log_len.result c.moment-moment.result c.in-Ok.ensures.called.loan.shape e c.requires.built m h
-    (c.log_len.ensures.list h.records h.stands.list) c.in-Ok-finish.ensures.finishes
+    (c.log_len.ensures.list h.records h.stands.list) c.moment-moment.ensures.moment c.in-Ok-finish.ensures.finishes
 
 pub returns-in-Err-finish-clause-ran : goal.returns-in-Err-finish-clause-ran
 returns-in-Err-finish-clause-ran g c = λ scripts R0 R sessions labels task e t few own m.

@@ -5,6 +5,7 @@ mod full;
 mod moving;
 mod opening;
 mod records;
+mod rows;
 
 ghost use Rattle.std.specs.Prelude.{◌≤◌, length};
 ghost use Rattle.seg_words.specs.Types.{LONGEST_ROW};

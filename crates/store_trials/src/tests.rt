@@ -6,6 +6,7 @@ mod moving;
 mod opening;
 mod records;
 mod rows;
+mod stopping;
 
 ghost use Rattle.std.specs.Prelude.{◌≤◌, length};
 ghost use Rattle.seg_words.specs.Types.{LONGEST_ROW};

@@ -1,6 +1,7 @@
-// A store whose disk stops.
+// A store whose disk stops, and what an opening makes of what a crash then leaves.
 use super::{Answer, TABLE, formatted, insert_row, make_table};
-use disk_model::{Disk, Stopping};
+use disk_model::{Disk, Memory, Stopping, Tear};
+use recovery::open;
 use row_change::locate;
 use seg_base::{RowNo, Scn, TxnId};
 use std::alloc::Global;
@@ -16,6 +17,78 @@ fn commit_row<D: Disk>(alloc: Global, store: &mut Store<D>, who: u8) -> Option<S
         Answer::Row(_, txn) => commit(store, TxnId(txn)).ok(),
         _ => None,
     }
+}
+
+// How many of two commits are acknowledged.
+fn commit_two<D: Disk>(alloc: Global, store: &mut Store<D>) -> Result<u64, Fail> {
+    make_table(alloc, store, 10)?;
+    match commit_row(alloc, store, 1) {
+        None => Ok(0),
+        Some(_) => match commit_row(alloc, store, 2) {
+            None => Ok(1),
+            Some(_) => Ok(2),
+        },
+    }
+}
+
+fn run_on<D: Disk>(alloc: Global, disk: &mut D) -> Result<u64, Fail> {
+    match prepare(alloc, disk) {
+        Ok(loaded) => commit_two(alloc, &mut Store::over(disk, loaded)),
+        Err(_) => Ok(0),
+    }
+}
+
+// How many commits are acknowledged on a disk that stops after so many writes, and that disk.
+fn stopped(alloc: Global, writes: u64) -> Result<(u64, Memory), Fail> {
+    let mut disk = Stopping::new(formatted(alloc)?, writes);
+    let commits = run_on(alloc, &mut disk)?;
+    Ok((commits, disk.into_disk()))
+}
+
+// How many records and commits the store of a disk has when it is opened.
+fn opened(alloc: Global, disk: &mut Memory) -> Result<(u64, u64), Fail> {
+    let store = open(alloc, disk)?;
+    Ok((store.log_len(), store.commits().0))
+}
+
+// The same of a crash on that disk now.
+fn opened_after(alloc: Global, disk: &Memory, tear: Tear) -> Result<(u64, u64), Fail> {
+    let mut after = disk.crashed(disk.moment(), tear)?;
+    opened(alloc, &mut after)
+}
+
+#[test]
+fn each_stop_leaves_what_was_acknowledged(rt: HostRuntime) -> Result<(), Fail> {
+    let alloc = rt.alloc();
+    let (none, one, two) = ((0, 0), (8, 1), (11, 2));
+    let cases = [
+        (0, 0, none, none),
+        (1, 0, none, none),
+        (2, 0, none, one),
+        (3, 1, one, one),
+        (4, 1, one, two),
+        (5, 2, two, two),
+    ];
+    for (writes, commits, old, new) in cases {
+        let (made, disk) = stopped(alloc, writes)?;
+        assert_eq!(rt; made, commits, "{writes} writes");
+        assert_eq!(rt;
+            opened_after(alloc, &disk, Tear::Old)?,
+            old,
+            "{writes} writes"
+        );
+        assert_eq!(rt;
+            opened_after(alloc, &disk, Tear::Zero)?,
+            old,
+            "{writes} writes"
+        );
+        assert_eq!(rt;
+            opened_after(alloc, &disk, Tear::New)?,
+            new,
+            "{writes} writes"
+        );
+    }
+    Ok(())
 }
 
 #[test]

@@ -20,6 +20,11 @@ use Rattle.scan_table.specs.Standing.{HoldsScan, IsDone, IsMore, Refuses}
 abbrev pub place : ℕ → List (Option OpenScan) → Option OpenScan
 place who places = slice_index_or places (who - 1) None
 
+-- how many blocks of its list it has read
+abbrev pub blocks_read : Option OpenScan → ℕ
+blocks_read None = 0
+blocks_read (Some s) = s.read
+
 -- the scan stays open
 abbrev pub stays_open : Result ScanStep ScanFault → Bool
 stays_open (Ok steps.More) = true

@@ -8,7 +8,7 @@ ghost use Rattle.store_core.specs.Causes.{HasLooked};
 ghost use Rattle.store_core.specs.Store.{IsTrue};
 ghost use Rattle.scan_table.specs.Reading.{store_part};
 ghost use Rattle.scan_table.specs.Standing.{HoldsScan, marked_by};
-ghost use Rattle.scan_table.specs.Places.{Begins, IsAfter, IsBegun, IsOpenAfter, Steps, left_by, place, stays_open};
+ghost use Rattle.scan_table.specs.Places.{Begins, IsAfter, IsBegun, IsOpenAfter, Steps, blocks_read, left_by, place, stays_open};
 ghost use Rattle.scan_table.specs.declared.scan.OpenScan.{OpenScan as TheScan};
 
 use crate::opening::open_scan;
@@ -99,6 +99,15 @@ fn mark_all(places: &mut Vec<Option<OpenScan>>, obj: Obj, gone: &Lowered)
     }
 }
 
+fn blocks_read(scan: &Option<OpenScan>) -> usize
+    ensures { result ≡ blocks_read scan.now }
+{
+    match scan {
+        None => 0,
+        Some(scan) => scan.read,
+    }
+}
+
 impl Scans {
     /// No open scan, with all the memory that marks take.
     pub fn new(alloc: Global) -> Result<Scans, NoMemory>
@@ -115,6 +124,15 @@ impl Scans {
         ensures { result ≡ is_some (place who self.now) }
     {
         self.places[usize::from(who) - 1].is_some()
+    }
+
+    /// How many blocks of its list a session's open scan has read; 0 where it has none.
+    pub fn blocks_read(&self, who: u8) -> usize
+        requires least { 1 ≤ who }
+        requires most { who ≤ MOST_SESSIONS }
+        ensures { result ≡ blocks_read (place who self.now) }
+    {
+        blocks_read(&self.places[usize::from(who) - 1])
     }
 
     /// The first event of a scan of a session without an open one: takes the number of commits and the list of the blocks to read.

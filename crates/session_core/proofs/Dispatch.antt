@@ -8,15 +8,15 @@ use Rattle.script_text.specs.declared.statement.Statement.{Statement}
 use Rattle.script_text.specs.declared.statement.Statement.TheVariants as asked
 use Rattle.history_model.specs.Spans.{Span}
 use Rattle.history_laws.specs.Acting.{TakesBack}
-use Rattle.history_laws.specs.Working.{BackStands, RowWork, Inserting, OnRow, TakingBack}
+use Rattle.history_laws.specs.Working.{BackStands, RowWork, Inserting, OnRow, Scanning, TakingBack}
 use Rattle.session_model.specs.Doings.{Working, takes_back}
 use Rattle.session_model.specs.Worlds.{IsReady}
 use Rattle.store_core.specs.Store.{Held}
 use Rattle.session_core.specs.declared.session.Doing.{Doing as Told}
 use Rattle.session_core.specs.declared.session.Doing.TheVariants as told
 use Rattle.session_core.specs.declared.session.RowWork.{RowWork as ToldWork}
-use Rattle.session_core.specs.Doings.{doing_of}
 use Rattle.session_core.specs.RowWorks.{work_of}
+use Rattle.session_core.specs.Doings.{doing_of, no_scan}
 use Rattle.session_core.specs.Acting.{IsAt, IsStarting}
 use Rattle.session_core.specs.Ends.{MayRollBack}
 
@@ -61,6 +61,14 @@ row_never sh x st q k r = k
 pub never_on_row : (sh : Shape) (x : Span) (st : Option Statement) (d : Told) (q : ToldWork) → TakesBack st → d ≡ told.OnRow q → IsReady sh x st (doing_of d) → ⊥
 never_on_row sh x st d q k e r = row_never sh x st (work_of q) k (subst (λ (z : Told). IsReady sh x st (doing_of z)) e r)
 
+scan_never : (sh : Shape) (x : Span) (st : Option Statement) → TakesBack st → IsReady sh x st (Working (Scanning no_scan)) → ⊥
+scan_never sh x (Some asked.Rollback) k r = r.1
+scan_never sh x None k r = r.1
+scan_never sh x st k r = k
+
+pub never_scans : (sh : Shape) (x : Span) (st : Option Statement) (d : Told) → TakesBack st → d ≡ told.Scanning → IsReady sh x st (doing_of d) → ⊥
+never_scans sh x st d k e r = scan_never sh x st k (subst (λ (z : Told). IsReady sh x st (doing_of z)) e r)
+
 -- ---- statements of one event begin with it
 
 pub table_starting : (sh : Shape) (x : Span) (name : List ℕ) (pctfree : ℕ) (d : Told) → IsReady sh x (Some (asked.Table name pctfree)) (doing_of d) → (takes_back (doing_of d) ≡ false → own_backed x.ended x.session ≡ false) → IsStarting x
@@ -68,12 +76,14 @@ table_starting sh x name pctfree told.Waiting r w = record { at_once = sym r; wh
 table_starting sh x name pctfree (told.Inserting o) r w = absurd r.1
 table_starting sh x name pctfree (told.TakingBack t) r w = absurd r.1
 table_starting sh x name pctfree (told.OnRow k) r w = absurd r.1
+table_starting sh x name pctfree told.Scanning r w = absurd r.1
 
 pub commit_starting : (sh : Shape) (x : Span) (d : Told) → IsReady sh x (Some asked.Commit) (doing_of d) → (takes_back (doing_of d) ≡ false → own_backed x.ended x.session ≡ false) → IsStarting x
 commit_starting sh x told.Waiting r w = record { at_once = sym r; whole = w refl }
 commit_starting sh x (told.Inserting o) r w = absurd r.1
 commit_starting sh x (told.TakingBack t) r w = absurd r.1
 commit_starting sh x (told.OnRow k) r w = absurd r.1
+commit_starting sh x told.Scanning r w = absurd r.1
 
 pub ready_as : (sh : Shape) (x : Span) (st st' : Statement) (d : Told) → st ≡ st' → IsReady sh x (Some st) (doing_of d) → IsReady sh x (Some st') (doing_of d)
 ready_as sh x st st' d e r = subst (λ (z : Statement). IsReady sh x (Some z) (doing_of d)) e r

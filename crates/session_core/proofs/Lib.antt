@@ -13,3 +13,6 @@ pub mod Settlings
 pub mod Fixings
 pub mod OnRows
 pub mod Deletes
+pub mod Places
+pub mod ScanEvents
+pub mod Usages

@@ -39,12 +39,14 @@ busy_of told.Waiting ne e = ne refl
 busy_of (told.Inserting o) ne e = absurd (cc e)
 busy_of (told.TakingBack t) ne e = absurd (cc e)
 busy_of (told.OnRow k) ne e = absurd (cc e)
+busy_of told.Scanning ne e = absurd (cc e)
 
 told_waiting : (d : ToldDoing) → doing_of d ≡ Waiting → d ≡ told.Waiting
 told_waiting told.Waiting e = refl
 told_waiting (told.Inserting o) e = absurd (cc e)
 told_waiting (told.TakingBack t) e = absurd (cc e)
 told_waiting (told.OnRow k) e = absurd (cc e)
+told_waiting told.Scanning e = absurd (cc e)
 
 doing_at : (sessions : ℕ → Session) (w : ℕ) (s : Told) → sessions w ≡ session_of s → (sessions w).doing ≡ doing_of s.doing
 doing_at sessions w s e = ap (λ (z : Session). z.doing) e
@@ -157,6 +159,7 @@ is_waiting told.Waiting = inl refl
 is_waiting (told.Inserting o) = inr (λ e. absurd (cc e))
 is_waiting (told.TakingBack t) = inr (λ e. absurd (cc e))
 is_waiting (told.OnRow k) = inr (λ e. absurd (cc e))
+is_waiting told.Scanning = inr (λ e. absurd (cc e))
 
 started_midst : (sh : Shape) (scripts : List (List Statement)) (script : List Statement) (R0 R : List Record) (T U : List HistoryItem) (sessions : ℕ → Session) (labels : List ℕ → Option ℕ) (w n : ℕ) (s t : Told) → n ≡ length R → IsSession scripts w → script_of scripts w ≡ script → own_of R w ≡ s.own → sessions w ≡ session_of s
     → IsWorld sh scripts R0 R T sessions labels → IsStarted w (length script) n s t T U → InMidst sh scripts R0 R T U sessions labels w t

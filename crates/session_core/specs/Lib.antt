@@ -10,3 +10,5 @@ pub mod Inserts
 pub mod Owing
 pub mod Fixing
 pub mod Changes
+pub mod Scanned
+pub mod Counted

@@ -43,7 +43,9 @@ pub fn begin(
     ensures failed { OnErr result (history.new ≡ history.old) }
 {
     match session.doing {
-        Doing::Inserting(_) | Doing::TakingBack(_) | Doing::OnRow(_) => return Ok(true),
+        Doing::Inserting(_) | Doing::TakingBack(_) | Doing::OnRow(_) | Doing::Scanning => {
+            return Ok(true);
+        }
         Doing::Waiting => {}
     }
     if session.told >= statements && session.own.is_none() {
@@ -123,6 +125,7 @@ fn roll<D: Disk>(
         Doing::Waiting => roll_back(alloc, store, own),
         Doing::Inserting(_) => roll_back(alloc, store, own),
         Doing::OnRow(_) => roll_back(alloc, store, own),
+        Doing::Scanning => roll_back(alloc, store, own),
     }
 }
 

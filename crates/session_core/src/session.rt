@@ -13,6 +13,8 @@ pub enum Doing {
     TakingBack(TxnId),
     /// An update or a delete looks for its row, or has found it.
     OnRow(RowWork),
+    /// A scan reads its blocks, one an event. It stands in its session's place of the open scans.
+    Scanning,
 }
 
 /// A session: how many of its statements have their entry, with how many records the one under way began, what it is at, and

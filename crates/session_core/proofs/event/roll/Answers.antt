@@ -1,4 +1,4 @@
-use Rattle.session_core.proofs.Dispatch.{back_on, back_at, may_roll, waits_starting, never_inserts, never_on_row}
+use Rattle.session_core.proofs.Dispatch.{back_on, back_at, may_roll, waits_starting, never_inserts, never_on_row, never_scans}
 use Rattle.session_core.proofs.event.roll.Goals as goal
 
 pub returns-in-TakingBack-clause-acted : goal.returns-in-TakingBack-clause-acted
@@ -15,3 +15,6 @@ returns-in-Inserting-clause-acted g c = λ x st k at r w closing. absurd (never_
 
 pub returns-in-OnRow-clause-acted : goal.returns-in-OnRow-clause-acted
 returns-in-OnRow-clause-acted g c = λ x st k at r w closing. absurd (never_on_row c.args.store.now.shape x st c.args.doing c.in-OnRow.field-0 k c.in-OnRow.is r)
+
+pub returns-in-Scanning-clause-acted : goal.returns-in-Scanning-clause-acted
+returns-in-Scanning-clause-acted g c = λ x st k at r w closing. absurd (never_scans c.args.store.now.shape x st c.args.doing k c.in-Scanning.is r)

@@ -55,7 +55,7 @@ code_back Fs2 = refl
 code_back Fs3 = refl
 code_back Fs4 = refl
 
-same_class : (c d : BlockClass) → class_code c ≡ class_code d → c ≡ d
+pub same_class : (c d : BlockClass) → class_code c ≡ class_code d → c ≡ d
 same_class c d e = some_class c d (sym (code_back c) ∙ (ap class_from e ∙ code_back d))
 
 from_code : (v : ℕ) (c : BlockClass) → class_from v ≡ Some c → class_code c ≡ v

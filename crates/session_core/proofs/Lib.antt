@@ -16,3 +16,4 @@ pub mod Deletes
 pub mod Places
 pub mod ScanEvents
 pub mod Usages
+pub mod Repairings

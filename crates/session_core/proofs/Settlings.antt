@@ -45,7 +45,7 @@ is_cleaning R b e =
     let y = calls_for R b e in
     record { slot = y.slot; there = written_there R b y.slot y.txn y.writer; txn = y.txn; names = y.writer; number = y.number; committed = y.committed; known = y.known }
 
-clean_tidies : (R : List Record) (b : ℕ) → IsTidied R (with_clean R b)
+pub clean_tidies : (R : List Record) (b : ℕ) → IsTidied R (with_clean R b)
 clean_tidies R b = (elim (calls_for_clean R b) as (λ v. calls_for_clean R b ≡ v → IsTidied R (cond v (made.Clean (drafted_clean R b) ∷ R) R)) [
   | true ↦ λ e. tidy_one (made.Clean (drafted_clean R b)) tidy_none (is_cleaning R b e)
   | false ↦ λ e. tidy_none
@@ -100,7 +100,7 @@ nothing_settled sh R o b h here f = let p = or_parts (calls_for_clean R b) (call
 
 -- ---- one block
 
-abbrev stands_tidied : {D : Type 0} (meaning : Meaning D) (R S : List Record) (a b : Held D) → IsTrue meaning R a → SameLoan meaning a b → Stands meaning R S a b → IsTidied R S → a.log.stable ≤ b.log.stable → HasTidied meaning R a b
+abbrev pub stands_tidied : {D : Type 0} (meaning : Meaning D) (R S : List Record) (a b : Held D) → IsTrue meaning R a → SameLoan meaning a b → Stands meaning R S a b → IsTidied R S → a.log.stable ≤ b.log.stable → HasTidied meaning R a b
 stands_tidied meaning R S a b t loan s h stable = record { records = S; stands = s.list; tidied = h; stable = stable; survives = λ since needed v. s.survives since needed v; time = loan.time R t.list }
 
 pub settled_block : {D : Type 0} (meaning : Meaning D) (R : List Record) (o d before after : ℕ) (y : Bool) (a b : Held D) → HasBlock meaning R o d a → SameLoan meaning a b → before ≡ length R → ((S : List Record) → HasList meaning S b → after ≡ length S) → Settles meaning R o d a b (Ok y)

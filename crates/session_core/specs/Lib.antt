@@ -12,3 +12,4 @@ pub mod Fixing
 pub mod Changes
 pub mod Scanned
 pub mod Counted
+pub mod Repairing

@@ -16,7 +16,7 @@ use seg_base::{
 };
 
 /// The name in a log's head, behind its gate.
-pub const HEAD_NAME: [u8; 8] = *b"ASSMSEG0";
+pub const HEAD_NAME: [u8; 8] = *b"ASSMSEG1";
 
 /// Where the numbers of the store's shape stand in a log's head, and the zeros behind them.
 pub const BLOCKS_AT: usize = 9;

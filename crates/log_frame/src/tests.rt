@@ -23,7 +23,7 @@ fn a_new_log_and_its_first_group(rt: HostRuntime) -> Result<(), Fail> {
     let alloc = rt.alloc();
     let mut disk = formatted(alloc)?;
     let mut head = [0u8; LOG_HEAD_SIZE];
-    head[..24].copy_from_slice(b"\x01ASSMSEG0\0\0\0\x40\0\0\0\x08\0\0\0\x02\0\0\0");
+    head[..24].copy_from_slice(b"\x01ASSMSEG1\0\0\0\x40\0\0\0\x08\0\0\0\x02\0\0\0");
     assert_eq!(rt; disk.bytes(File::Log), head.as_slice());
     assert_eq!(rt; read_shape(&mut disk)?, SHAPE);
     let mut log = open(&mut disk, FIRST_GATE)?;
@@ -108,7 +108,7 @@ fn each_refusal_has_its_place(rt: HostRuntime) -> Result<(), Fail> {
     let alloc = rt.alloc();
     let cases = [
         (0, b"\0".as_slice(), Some(FrameFault::NotOpen)),
-        (8, b"1".as_slice(), bad(8, b'1')),
+        (8, b"0".as_slice(), bad(8, b'0')),
         (1, b"a".as_slice(), bad(1, b'a')),
         (9, b"\0\0\0\x3f".as_slice(), bad(9, 0)),
         (13, b"\0\0\0\x07".as_slice(), bad(13, 0)),

@@ -95,7 +95,7 @@ read_shows files (opens.BadPage d) e same = byte_shows files d e same
 read_shows files opens.NoMemory e same = subst (Shows files) (sym same) tt
 
 pub is_read : {D : Type 0} (files : Files) (sh : Shape) (r : Read D) → HasBlocks sh files → IsReadOf files.log_bytes r → IsRead r.shape files
-is_read files sh r blocks h = record { R = h.R; reads = record { blocks = blocks_as files sh r.shape blocks h.head; end = r.log.end; ends = h.ends } }
+is_read files sh r blocks h = record { R = h.R; reads = record { blocks = blocks_as files sh r.shape blocks h.head; end = r.log.end; ends = h.ends }; fit = h.fit }
 
 -- ---- a sound store
 
@@ -135,7 +135,7 @@ why_left found left sh R (faults.BadPage d) e sound same = page_left found left 
 why_left found left sh R faults.NoMemory e sound same = subst (WhyLeftActive found sh R) (sym same) tt
 
 pub left_active : (found left : Files) (sh : Shape) (f : StoreFault) (e : OpenFault) → (r : IsRead sh found) → (IsSound sh r.R found → IsSoundFault f) → IsStoreFault left f e → IsLeftActive found e
-left_active found left sh f e r sound same = record { shape = sh; R = r.R; reads = r.reads; why = why_left found left sh r.R f e sound same }
+left_active found left sh f e r sound same = record { shape = sh; R = r.R; reads = r.reads; fit = r.fit; why = why_left found left sh r.R f e sound same }
 
 pub store_shows : (files : Files) (f : StoreFault) (e : OpenFault) → IsStoreFault files f e → Shows files e
 store_shows files faults.DeviceFault e same = subst (Shows files) (sym same) tt

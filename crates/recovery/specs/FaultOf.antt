@@ -19,6 +19,15 @@ IsFirstByte files d (BadFile Data offset seen) = (offset ≡ block_at d) × (see
 IsFirstByte files d AlreadyFormatted = ⊥
 IsFirstByte files d NoMemory = ⊥
 
+-- the device's, or one of the data file where a block begins, whatever is known of the disk
+abbrev pub IsPageFault : ℕ → OpenFault → Type 0
+IsPageFault d DeviceFault = Unit {0}
+IsPageFault d NotFormatted = ⊥
+IsPageFault d (BadFile Log offset seen) = ⊥
+IsPageFault d (BadFile Data offset seen) = offset ≡ block_at d
+IsPageFault d AlreadyFormatted = ⊥
+IsPageFault d NoMemory = ⊥
+
 -- of what is read of a log
 abbrev pub IsReadFault : Files → StoreOpen → OpenFault → Type 0
 IsReadFault files opens.DeviceFault e = e ≡ DeviceFault

@@ -7,7 +7,7 @@ use Rattle.disk_model.specs.declared.disk.File.TheVariants.{Data, Log}
 use Rattle.log_frame.specs.Types.{is_formatted}
 use Rattle.redo_model.specs.Records.{Record}
 use Rattle.redo_log.specs.Found.{WalkBreaks, WalkEnds}
-use Rattle.page_map.specs.Fitting.{StopsAt}
+use Rattle.page_map.specs.Fitting.{AreAllFit, StopsAt}
 use Rattle.store_files.specs.Store.{data_size}
 use Rattle.store_files.specs.declared.fault.OpenFault.{OpenFault}
 use Rattle.store_files.specs.declared.fault.OpenFault.TheVariants.{DeviceFault, NotFormatted, BadFile, AlreadyFormatted, NoMemory}
@@ -30,10 +30,11 @@ pub record ReadsAs (sh : Shape) (R : List Record) (files : Files) : Type 0 where
   pub end : ℕ
   pub ends : WalkEnds files.log_bytes FIRST_GATE end [] R
 
--- with some records
+-- with some records, each of which fits on each page that it touches
 pub record IsRead (sh : Shape) (files : Files) : Type 0 where
   pub R : List Record
   pub reads : ReadsAs sh R files
+  pub fit : AreAllFit sh R
 
 -- the head is right, and the data file ends before its last block does
 pub record EndsEarly (files : Files) (offset seen : ℕ) : Type 0 where
@@ -79,11 +80,12 @@ WhyLeftActive files sh R (BadFile Data offset seen) = (IsSound sh R files → �
 WhyLeftActive files sh R AlreadyFormatted = ⊥
 WhyLeftActive files sh R NoMemory = Unit {0}
 
--- the files read as those of a store, and what is active in it wasn't taken back
+-- the files read as those of a store, each record fits on each page that it touches, and what is active in it wasn't taken back
 pub record IsLeftActive (files : Files) (fault : OpenFault) : Type 0 where
   pub shape : Shape
   pub R : List Record
   pub reads : ReadsAs shape R files
+  pub fit : AreAllFit shape R
   pub why : WhyLeftActive files shape R fault
 
 abbrev pub IsReadOrRefused : {D : Type 0} → Files → Result (Read D) OpenFault → Type 0

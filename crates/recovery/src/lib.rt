@@ -12,4 +12,5 @@ mod tests;
 
 pub use closing::take_back_active;
 pub use opening::{open, recover};
+pub use refusing::bad_page;
 pub use store_files::{OpenFault, format};

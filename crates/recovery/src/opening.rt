@@ -31,6 +31,7 @@ fn read_store<D: Disk>(alloc: Global, disk: &mut D) -> Result<Loaded<D>, OpenFau
     ensures first { IfOk result (λ loaded. Untouched D.meaning disk.old loaded.first) }
     ensures unspent { IfOk result (λ loaded. loaded.fault ≡ None) }
     ensures cause { Causes D.meaning disk.old disk.new (IsErrOf result OpenFault.DeviceFault) }
+    ensures only { IsErrOf result OpenFault.AlreadyFormatted → ⊥ }
     ensures untouched { Untouched D.meaning disk.old disk.new }
 {
     let _shape = match read_head(disk) {
@@ -88,6 +89,7 @@ pub fn recover<D: Disk>(alloc: Global, disk: &mut D) -> Result<Loaded<D>, OpenFa
     ensures first { IfOk result (λ loaded. Untouched D.meaning disk.old loaded.first) }
     ensures unspent { IfOk result (λ loaded. loaded.fault ≡ None) }
     ensures cause { Causes D.meaning disk.old disk.new (IsErrOf result OpenFault.DeviceFault) }
+    ensures only { IsErrOf result OpenFault.AlreadyFormatted → ⊥ }
     ensures told { D.meaning.told disk.new ↔ D.meaning.told disk.old }
 {
     let loaded = match read_store(alloc, disk) {

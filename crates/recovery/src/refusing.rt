@@ -5,7 +5,7 @@ ghost use Rattle.disk_model.specs.Types.{Causes, Untouched};
 ghost use Rattle.store_files.specs.declared.fault.OpenFault.TheVariants as refusals;
 ghost use Rattle.store_core.specs.declared.fault.StoreFault.TheVariants as faults;
 ghost use Rattle.store_core.specs.declared.fault.StoreOpen.TheVariants as opens;
-ghost use Rattle.recovery.specs.FaultOf.{IsFirstByte, IsReadFault, IsStoreFault};
+ghost use Rattle.recovery.specs.FaultOf.{IsFirstByte, IsPageFault, IsReadFault, IsStoreFault};
 
 use disk_model::{Disk, File};
 use seg_base::{BLOCK_SIZE, Dba};
@@ -14,7 +14,8 @@ use store_files::OpenFault;
 
 /// That the page of a block is wrong: the place where it begins in the data file, and the byte there.
 #[tactic(auto, using(disk_model::proofs::Going::untouched_call))]
-fn bad_page<D: Disk>(disk: &mut D, dba: Dba) -> OpenFault
+pub fn bad_page<D: Disk>(disk: &mut D, dba: Dba) -> OpenFault
+    ensures place { IsPageFault dba result }
     ensures byte { D.meaning.told disk.old → IsFirstByte (D.meaning.files disk.old) dba result }
     ensures cause { Causes D.meaning disk.old disk.new (result ≡ refusals.DeviceFault) }
     ensures untouched { Untouched D.meaning disk.old disk.new }
@@ -37,6 +38,7 @@ pub(crate) fn of_open<D: Disk>(disk: &mut D, fault: StoreOpen) -> OpenFault
     ensures same { D.meaning.told disk.old → IsReadFault (D.meaning.files disk.old) fault result }
     ensures later { D.meaning.fault_count disk.old ≤ D.meaning.fault_count disk.new }
     ensures device { result ≡ refusals.DeviceFault → (fault ≡ opens.DeviceFault) ⊎ Rose (D.meaning.fault_count disk.old) (D.meaning.fault_count disk.new) }
+    ensures only { result ≡ refusals.AlreadyFormatted → ⊥ }
     ensures untouched { Untouched D.meaning disk.old disk.new }
 {
     match fault {
@@ -58,6 +60,7 @@ pub(crate) fn of_store<D: Disk>(disk: &mut D, fault: StoreFault) -> OpenFault
     ensures same { D.meaning.told disk.old → IsStoreFault (D.meaning.files disk.old) fault result }
     ensures later { D.meaning.fault_count disk.old ≤ D.meaning.fault_count disk.new }
     ensures device { result ≡ refusals.DeviceFault → (fault ≡ faults.DeviceFault) ⊎ Rose (D.meaning.fault_count disk.old) (D.meaning.fault_count disk.new) }
+    ensures only { result ≡ refusals.AlreadyFormatted → ⊥ }
     ensures untouched { Untouched D.meaning disk.old disk.new }
 {
     match fault {

@@ -7,3 +7,4 @@ pub mod Rows
 pub mod Schedule
 pub mod Script
 pub mod Spelled
+pub mod Whys

@@ -39,12 +39,12 @@ pub struct Forms {
 
 /// What the store can run today: each form is opened here.
 pub const BUILT_FORMS: Forms = Forms {
-    sessions: false,
-    schedule: false,
+    sessions: true,
+    schedule: true,
     flushes: false,
     shrink: false,
-    usage: false,
-    fix: false,
+    usage: true,
+    fix: true,
     repair: false,
     checkpoint: false,
 };

@@ -20,6 +20,7 @@ mod why;
 pub use form::{ALL_FORMS, BUILT_FORMS, Form, Forms};
 pub use laws::{one_spelling, scripts_are_spelled};
 pub use parsing::parse;
+pub use pieces::number;
 pub use printing::print;
 pub use scripts::Scripts;
 pub use statement::{Statement, Target, Turns};

@@ -94,11 +94,11 @@ const LINES: [(&[u8], u32, Why); 52] = [
 
 /// Lines of forms that aren't built.
 const CLOSED: [&[u8]; 5] = [
-    b"session 1\nsession 2\n",
     b"session 1\nshrink t\n",
-    b"session 1\nusage T\n",
+    b"session 1\nshrink T now\n",
+    b"session 1\nrepair T\n",
     b"session 1\ncheckpoint\n",
-    b"session 1\nschedule 1\n",
+    b"session 1\nschedule 1 0x2\n",
 ];
 
 #[test]
@@ -112,12 +112,15 @@ fn lines_are_refused(rt: HostRuntime) -> Result<(), Fail> {
     for text in CLOSED {
         assert_eq!(rt; fault(&rt, rt.alloc(), &BUILT_FORMS, text), expected);
     }
-    let unflushed = Forms {
-        flushes: false,
+    let single = Forms {
+        sessions: false,
+        schedule: false,
         ..ALL_FORMS
     };
-    let text = b"session 1\nschedule 1 0x2\n".as_slice();
-    assert_eq!(rt; fault(&rt, rt.alloc(), &unflushed, text), expected);
+    let texts: [&[u8]; 2] = [b"session 1\nsession 2\n", b"session 1\nschedule 1\n"];
+    for text in texts {
+        assert_eq!(rt; fault(&rt, rt.alloc(), &single, text), expected);
+    }
     Ok(())
 }
 
@@ -170,6 +173,7 @@ fn scripts_are_printed(rt: HostRuntime) -> Result<(), Fail> {
     prints(&rt, alloc, &ALL_FORMS, BUSY, BUSY)?;
     prints(&rt, alloc, &ALL_FORMS, FORMS, FORMS_PRINTED)?;
     prints(&rt, alloc, &ALL_FORMS, FORMS_PRINTED, FORMS_PRINTED)?;
+    prints(&rt, alloc, &BUILT_FORMS, BUSY, BUSY)?;
     prints(&rt, alloc, &BUILT_FORMS, b"-- nothing", b"")?;
     let scripts = parse(alloc, b"session 1\nscan t")?;
     assert_eq!(rt; scripts.sessions().len(), 1);

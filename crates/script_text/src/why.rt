@@ -1,5 +1,6 @@
 // Why a script is refused.
-ghost use Rattle.std.specs.Prelude.{◌≡◌};
+ghost use Rattle.std.specs.Prelude.{◌≡◌, Some};
+ghost use Rattle.script_text.specs.Whys.{why_text};
 ghost use Rattle.script_text.specs.declared.why.ScriptFault.TheVariants as script;
 ghost use Rattle.script_text.specs.declared.why.LineFault.TheVariants as line;
 
@@ -28,19 +29,20 @@ pub enum Why {
 }
 
 impl fmt::Display for Why {
+    ghost output = { λ why. Some (why_text why) };
+
     fn fmt<W: fmt::Write>(&self, f: &mut fmt::Formatter<W>) -> fmt::Result {
-        let name = match self {
-            Why::BadByte => "BadByte",
-            Why::SessionOrder => "SessionOrder",
-            Why::NotAStatement => "NotAStatement",
-            Why::BadName => "BadName",
-            Why::BadNumber => "BadNumber",
-            Why::RowEmpty => "RowEmpty",
-            Why::RowTooLong => "RowTooLong",
-            Why::DuplicateLabel => "DuplicateLabel",
-            Why::ScheduleSession => "ScheduleSession",
-        };
-        write!(f, "{name}")
+        match self {
+            Why::BadByte => write!(f, "BadByte"),
+            Why::SessionOrder => write!(f, "SessionOrder"),
+            Why::NotAStatement => write!(f, "NotAStatement"),
+            Why::BadName => write!(f, "BadName"),
+            Why::BadNumber => write!(f, "BadNumber"),
+            Why::RowEmpty => write!(f, "RowEmpty"),
+            Why::RowTooLong => write!(f, "RowTooLong"),
+            Why::DuplicateLabel => write!(f, "DuplicateLabel"),
+            Why::ScheduleSession => write!(f, "ScheduleSession"),
+        }
     }
 }
 

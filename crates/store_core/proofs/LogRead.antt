@@ -137,8 +137,8 @@ same_records file log items all found =
     holds_once found.groups [] (reverse items) found.R (subst (λ (g : List (List ℕ)). Holds g [] (reverse items)) once.0 walked.holds) found.holds
 
 pub is_read_of : {D : Type 0} (file : List ℕ) (r : Read D) (items first second : List Record) → HeadSays file r.shape → IsFound file 63 [] r.log → AreAll file 63 items
-    → first ≡ items → HasPages r.shape (reverse first) r.pages → second ≡ items → r.commits ≡ commit_count (reverse second) → IsReadOf file r
-is_read_of file r items first second head found all one pages two commits =
+    → first ≡ items → HasPages r.shape (reverse first) r.pages → AreAllFit r.shape (reverse first) → second ≡ items → r.commits ≡ commit_count (reverse second) → IsReadOf file r
+is_read_of file r items first second head found all one pages fit two commits =
     let same = same_records file r.log items all found in
     record {
       head = head;
@@ -146,6 +146,7 @@ is_read_of file r items first second head found all one pages two commits =
       ends = record { walked = record { groups = found.groups; between = found.between; holds = found.holds }; shut = found.shut };
       has = found.list.has;
       none = found.none;
+      fit = subst (AreAllFit r.shape) (ap reverse one ∙ same) fit;
       pages = subst (λ (l : List Record). HasPages r.shape l r.pages) (ap reverse one ∙ same) pages;
       commits = commits ∙ ap (λ (l : List Record). commit_count (reverse l)) two ∙ ap commit_count same;
     }

@@ -12,7 +12,7 @@ use Rattle.redo_log.specs.Found.{IsFound, AreAll, WalkBreaks, WalkEnds}
 use Rattle.redo_log.specs.declared.fault.LogFault.{LogFault}
 use Rattle.redo_log.specs.declared.fault.LogFault.TheVariants as logs
 use Rattle.page_map.specs.Pages.{HasPages}
-use Rattle.page_map.specs.Fitting.{StopsAt}
+use Rattle.page_map.specs.Fitting.{AreAllFit, StopsAt}
 use Rattle.page_map.specs.declared.fault.PageFault.{PageFault}
 use Rattle.page_map.specs.declared.fault.PageFault.TheVariants as pages
 use Rattle.store_core.specs.Store.{Read}
@@ -70,13 +70,14 @@ IsRefused file (opens.BadPage dba) = PageBreaks file dba
 IsRefused file opens.NoMemory = Unit {0}
 
 -- The log is formatted, its groups lead from the first gate to the closed one, and what was read has their records, all of
--- them stable, with their pages and the number of their commits.
+-- them stable, with their pages and the number of their commits. Each record fits on each page that it touches.
 pub record IsReadOf {D : Type 0} (file : List ℕ) (r : Read D) : Type 0 where
   pub head : HeadSays file r.shape
   pub R : List Record
   pub ends : WalkEnds file FIRST_GATE r.log.end [] R
   pub has : HasRecords R r.log
   pub none : r.log.waiting.bytes ≡ []
+  pub fit : AreAllFit r.shape R
   pub pages : HasPages r.shape R r.pages
   pub commits : r.commits ≡ commit_count R
 

@@ -1,5 +1,5 @@
 // A store of a disk.
-ghost use Rattle.std.specs.Prelude.{◌≡◌, ◌≤◌, ◌<◌, ◌^◌, [], ℕ, List, None, reverse, length, IfOk, IfErr, IsErrOf, true, false};
+ghost use Rattle.std.specs.Prelude.{◌≡◌, ◌≤◌, ◌<◌, ◌^◌, [], ℕ, List, None, reverse, length, IfOk, IfErr, IsErrOf, OnOk, true, false};
 ghost use Rattle.std.specs.Borrow.{GName};
 ghost use Rattle.seg_words.specs.Types.{Shape as TheShape, is_shape};
 ghost use Rattle.disk_model.specs.Crash.{Causes, Untouched};
@@ -13,6 +13,7 @@ ghost use Rattle.redo_model.specs.Model.{commit_count, IsLawful};
 ghost use Rattle.redo_log.specs.Kept.{Holds};
 ghost use Rattle.redo_log.specs.Lasting.{IsOpened};
 ghost use Rattle.page_map.specs.Pages.{HasPages};
+ghost use Rattle.page_map.specs.Fitting.{AreAllFit};
 ghost use Rattle.redo_log.specs.Found.{WalkEnds};
 ghost use Rattle.page_map.specs.declared.fault.PageFault.TheVariants as pages_fault;
 ghost use Rattle.store_core.specs.Store.{HasList, IsTrue, with_disk};
@@ -124,6 +125,7 @@ fn records_of<D: Disk>(alloc: Global, disk: &mut D, log: &RedoLog) -> Result<Vec
 // The pages that some records make.
 fn pages_of(alloc: Global, shape: &Shape, records: &[Record]) -> Result<Pages, StoreOpen>
     ensures pages { IfOk result (HasPages shape.now (reverse records.now)) }
+    ensures fits { OnOk result (AreAllFit shape.now (reverse records.now)) }
     ensures why { (file : List ℕ) (at : ℕ) → HeadSays file shape.now → WalkEnds file FIRST_GATE at [] (reverse records.now) → IfErr result (IsRefused file) }
     ensures lawful { is_shape shape.now ≡ true → IsLawful shape.now (reverse records.now) → IfErr result (λ e. e ≡ opens.NoMemory) }
     ensures device { IsErrOf result opens.DeviceFault → ⊥ }
@@ -149,7 +151,7 @@ fn count_commits(records: &[Record]) -> Scn
 
 /// Reads all of the log, and makes the pages that its records make, one record after the other. `NotOpen` comes exactly where
 /// the log isn't formatted, `BadLog` for the first byte of the log that is wrong, and `BadPage` where a record doesn't fit on
-/// the page of a block that it touches. No file is changed.
+/// the page of a block that it touches: at `Ok` each record of the log fits on each page that it touches. No file is changed.
 pub fn prepare<D: Disk>(alloc: Global, disk: &mut D) -> Result<Loaded<D>, StoreOpen>
     ensures prepared { D.meaning.told disk.old → IsPrepared (D.meaning.files disk.old).log_bytes result }
     ensures list { (sh : TheShape) (R : List Record) → IsSettled D.meaning disk.old Log → HasLog sh R (D.meaning.files disk.old).log_bytes

@@ -1,5 +1,6 @@
 // One step of a rollback: the newest standing record of a transaction is taken back.
 ghost use Rattle.std.specs.Prelude.{◌≡◌, ◌∷◌, ℕ, ◌+◌, ◌<◌, ◌≤◌, true, List, length, slice_get, None, Some, IfOk, IfErr};
+ghost use Rattle.seg_words.specs.Types.{MOST_UNDO_PARTS};
 ghost use Rattle.redo_model.specs.Records.{Record, Back};
 ghost use Rattle.redo_model.specs.Model.{Step, is_active, standing, newest_of, taken_back};
 ghost use Rattle.redo_model.specs.Records.{RowPart as ThePart};
@@ -16,7 +17,7 @@ use crate::standing::StandingOf;
 use crate::table::{extent_number, table_of};
 use disk_model::Disk;
 use redo_record::{BackPart, BackRecord, Parts, Record};
-use seg_base::{Dba, NoMemory, Obj, RowNo, Sequence, TxnId, UndoAddr, UndoPlace};
+use seg_base::{Dba, MOST_UNDO_PARTS, NoMemory, Obj, RowNo, Sequence, TxnId, UndoAddr, UndoPlace};
 use std::alloc::Global;
 use store_core::{Store, StoreFault, ask};
 use undo_block::Part;
@@ -59,7 +60,7 @@ fn back_parts<D: Disk>(
 ) -> Result<Parts<BackPart>, StoreFault>
     requires least { 1 ≤ count }
     requires most { count ≤ 3 }
-    requires place { at.nth < 63 }
+    requires place { at.nth < MOST_UNDO_PARTS }
     requires unspent { store.old.fault ≡ None }
     ensures looked { HasLooked D.meaning store.old store.new result }
     ensures says { (R : List Record) (st : Step) → IsTrue D.meaning R store.old → BackTold store.old.shape R txn st → st.undo ≡ at → length st.parts ≡ count → IfOk result (λ ps. ps ≡ taken_back st.parts) }
@@ -144,7 +145,7 @@ fn back_by<D: Disk>(
 ) -> Result<BackRecord, StoreFault>
     requires least { 1 ≤ first.now.parts }
     requires most { first.now.parts ≤ 3 }
-    requires place { at.nth < 63 }
+    requires place { at.nth < MOST_UNDO_PARTS }
     ensures looked { HasLooked D.meaning store.old store.new result }
     ensures says { (R : List Record) (st : Step) → IsTrue D.meaning R store.old → BackTold store.old.shape R txn st → st.undo ≡ at → IsFirst st first.now → entry ≡ table_place R txn → IfOk result (λ k. k ≡ back_of R txn st) }
     ensures sound { (R : List Record) (st : Step) → IsTrue D.meaning R store.old → BackTold store.old.shape R txn st → st.undo ≡ at → IsFirst st first.now → store.old.fault ≡ None → IfErr result IsSoundFault }
@@ -189,7 +190,7 @@ fn back_record<D: Disk>(
         Ok(first) => first,
         Err(fault) => return Err(fault),
     };
-    if first.parts == 0 || first.parts > 3 || at.nth >= 63 {
+    if first.parts == 0 || first.parts > 3 || at.nth >= MOST_UNDO_PARTS {
         return Err(store.refuse(Dba(at.block)));
     }
     back_by(alloc, store, txn, entry, at, &first)

@@ -184,4 +184,4 @@ returns-clause-prepared g c = λ told.
     let all = c.in-Ok-records_of.ensures.found file c.in-Ok.shape told2 same2 head in
     let found = c.in-Ok-log_of.ensures.found file c.in-Ok.shape told1 same1 head in
     let r : Read g.row.D.Denot = record { first = c.of-first.result.value; shape = c.in-Ok.shape; log = c.in-Ok-log_of.log; pages = c.in-Ok-pages_of.pages; commits = c.count_commits-commits.result; fault = None } in
-    is_read_of file r c.in-Ok-records_of.records.items c.deref.result.now c.deref-2.result.now head found all c.deref.ensures.value c.in-Ok-pages_of.ensures.pages c.deref-2.ensures.value c.count_commits-commits.ensures
+    is_read_of file r c.in-Ok-records_of.records.items c.deref.result.now c.deref-2.result.now head found all c.deref.ensures.value c.in-Ok-pages_of.ensures.pages c.in-Ok-pages_of.ensures.fits c.deref-2.ensures.value c.count_commits-commits.ensures

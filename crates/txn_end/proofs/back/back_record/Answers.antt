@@ -5,7 +5,7 @@ use Rattle.store_core.proofs.Lookups.{looked_on, looked_err}
 use Rattle.txn_end.proofs.Taking.{told_later, undo_found}
 use Rattle.txn_end.proofs.Backing.{first_is, first_given, says_record}
 use Rattle.txn_end.proofs.back.back_record.Goals as goal
-use Rattle.txn_end.proofs.back.back_record.Goals.{then-first-eq0-via-then-first-eq0, then-first-eq0-via-else-first-eq0+then-first-gt3, then-first-eq0-via-else-first-eq0+else-first-gt3+then-at-ge63}
+use Rattle.txn_end.proofs.back.back_record.Goals.{then-first-eq0-via-then-first-eq0, then-first-eq0-via-else-first-eq0+then-first-gt3, then-first-eq0-via-else-first-eq0+else-first-gt3+then-at-ge-MOST_UNDO_PARTS}
 
 pub returns-in-Err-clause-sound : goal.returns-in-Err-clause-sound
 returns-in-Err-clause-sound g c = λ R st t told u n. (let k = first_given c.args.store.now.shape R c.args.txn st c.args.at t.list.within t.lawful told u in c.in-Err.ensures.sound R k.0 t n (undo_found c.args.store.now.shape R c.args.txn st c.args.at t.list.within told u) k.1)
@@ -23,7 +23,7 @@ returns-then-first-eq0-clause-sound g c = λ R st t told u n.
     elim c.then-first-eq0.branch [
       | then-first-eq0-via-then-first-eq0 w ↦ absurd (let a = w.if-first-eq0.true in grind (arith, nat_tests))
       | then-first-eq0-via-else-first-eq0+then-first-gt3 w ↦ absurd (let a = w.if-first-gt3.true in grind (arith, nat_tests))
-      | then-first-eq0-via-else-first-eq0+else-first-gt3+then-at-ge63 w ↦ absurd (let a = w.if-at-ge63.true in grind (arith, nat_tests))
+      | then-first-eq0-via-else-first-eq0+else-first-gt3+then-at-ge-MOST_UNDO_PARTS w ↦ absurd (let a = w.if-at-ge-MOST_UNDO_PARTS.true in grind (arith, nat_tests))
     ]
 
 pub returns-clause-looked : goal.returns-clause-looked

@@ -26,6 +26,7 @@ use Rattle.free_search.specs.declared.look.Wanted.{Wanted}
 use Rattle.free_search.specs.Looks.{is_within, is_elsewhere, passes, passes_in, row_sought, IsFirstBlock, Knows, NoneIn}
 use Rattle.free_search.specs.Walks.{NoneOf, FirstOf, NoneWithin, FirstWithin}
 use Rattle.free_search.proofs.Known.{Fixed, FixedSegment, fixed, segment_fixed, knows_later}
+use Rattle.free_search.proofs.Lists.{none_further, none_passed}
 
 -- the extent with the number that its header names
 
@@ -224,6 +225,30 @@ elsewhere R l p (Some y) index passed high x k n there e few other = λ i d from
     let same = block_there R l index passed b m.extent i d s (omega (arith, few)) from to is in
     let apart_y : in_extent l.shape y d ≡ false = apart l.shape y m.extent.number d (λ z. eqb-false y x (not-true (eqb y x) other) (sym z ∙ m.number)) (omega (arith, same)) (omega (arith, same, from, to, few)) in
     ap (λ v. v && p d) apart_y
+
+-- where none of an extent is wanted, none of its positions is
+none_in_extent : (R : List Record) (l : Look) (w : Wanted) (only : Option ℕ) (index : ℕ) (e : Extent) → Fixed R l → extent_at (extents_of R l.segment.obj) index ≡ Some e → NoneIn l.shape R (row_sought l) w index e
+    → NoneWithin (passes_in l.shape R (row_sought l) w only) (data_blocks l.shape R l.segment.obj) l.segment.high (data_count l.shape index) (data_count l.shape (suc index))
+none_in_extent R l w only index e f at none = λ k c from to u is.
+    let b : ℕ = first_block l.shape e.number in
+    let few = head_below l.shape index f.shape in
+    let s : Stands R l index (data_count l.shape index) b e = record { first = record { extent = at; block = refl }; there = at_below (extents_of R l.segment.obj) index e at; passed_is = refl } in
+    let same = block_there R l index (data_count l.shape index) b e k c s (omega (arith, few)) from to is in
+    let nth : ℕ = head_blocks index + (k - data_count l.shape index) in
+    within_false (is_within l.shape only c) (passes l.shape R (row_sought l) w c) (ap (passes l.shape R (row_sought l) w) (sym same) ∙ none (b + nth) (data_in l.shape index e.number b nth refl (omega arith) (omega (arith, from, to, few))))
+
+-- of some extents one after the other
+pub none_in_extents : (R : List Record) (l : Look) (w : Wanted) (only : Option ℕ) (from n : ℕ) → Fixed R l → from + n ≤ length (extents_of R l.segment.obj) → ((index : ℕ) (e : Extent) → extent_at (extents_of R l.segment.obj) index ≡ Some e → from ≤ index → index < from + n → NoneIn l.shape R (row_sought l) w index e)
+    → NoneWithin (passes_in l.shape R (row_sought l) w only) (data_blocks l.shape R l.segment.obj) l.segment.high (data_count l.shape from) (data_count l.shape (from + n))
+none_in_extents R l w only from zero f less none =
+    let e : data_count l.shape (from + 0) ≡ data_count l.shape from = ap (data_count l.shape) (let z : from + 0 ≡ from = omega arith in z) in
+    none_passed (passes_in l.shape R (row_sought l) w only) (data_blocks l.shape R l.segment.obj) l.segment.high (data_count l.shape from) (data_count l.shape (from + 0)) (omega (arith, e))
+none_in_extents R l w only from (suc n) f less none =
+    let x = extent_there (extents_of R l.segment.obj) (from + n) (omega (arith, less)) in
+    subst (λ v. NoneWithin (passes_in l.shape R (row_sought l) w only) (data_blocks l.shape R l.segment.obj) l.segment.high (data_count l.shape from) v) (ap (data_count l.shape) (let z : suc (from + n) ≡ from + suc n = omega arith in z))
+    (none_further (passes_in l.shape R (row_sought l) w only) (data_blocks l.shape R l.segment.obj) l.segment.high (data_count l.shape from) (data_count l.shape (from + n)) (data_count l.shape (suc (from + n)))
+    (none_in_extents R l w only from n f (omega (arith, less)) (λ index e at least below. none index e at least (omega (arith, below))))
+    (none_in_extent R l w only (from + n) x.0 f x.1 (none (from + n) x.0 x.1 (omega arith) (omega arith))))
 
 -- ---- what the store says, by the shape that the search keeps
 

@@ -3,6 +3,7 @@ pub mod Codes
 pub mod Lists
 pub mod Extents
 pub mod Bests
+pub mod Thirds
 pub mod Walking
 pub mod Marks
 pub mod Finding

@@ -1,8 +1,8 @@
 -- What a search knows of its table, and what it wants of a block.
-use Rattle.std.specs.Prelude.{◌≡◌, ℕ, Bool, true, false, not, ◌&&◌, cond, eqb, List, Option, Some, None}
+use Rattle.std.specs.Prelude.{◌≡◌, ◌<◌, ◌≤◌, ℕ, Bool, true, false, not, ◌&&◌, cond, eqb, List, Option, Some, None}
 use Rattle.seg_words.specs.Types.{Shape, Taker, first_block}
 use Rattle.redo_model.specs.Records.{Record}
-use Rattle.redo_model.specs.Model.{Extent, extents_of, extent_at, extent_data, in_extent, ended_in, IsTable}
+use Rattle.redo_model.specs.Model.{Extent, extents_of, extent_at, extent_data, in_extent, ended_in, group_start, IsTable}
 use Rattle.version_laws.specs.Types.{ended_by}
 use Rattle.mark_laws.specs.Searches.{Sought, is_usable, is_good}
 use Rattle.redo_laws.specs.Among.{is_in}
@@ -47,9 +47,16 @@ passes sh R q wanted.Good b = is_good sh R q b
 abbrev pub NoneIn : Shape → List Record → Sought → Wanted → ℕ → Extent → Type 0
 NoneIn sh R q w index e = (b : ℕ) → is_in b (extent_data sh index e.number) ≡ true → passes sh R q w b ≡ false
 
--- none of them is good
-abbrev pub NoneGoodIn : Shape → List Record → Sought → ℕ → Extent → Type 0
-NoneGoodIn sh R q index e = NoneIn sh R q wanted.Good index e
+-- none of the data blocks of those extents of the table that a second level covers, the first of which has this index
+abbrev pub NoneInGroup : Shape → List Record → Sought → Wanted → ℕ → Type 0
+NoneInGroup sh R q w start = (index : ℕ) (e : Extent) → extent_at (extents_of R q.obj) index ≡ Some e → group_start index ≡ start → NoneIn sh R q w index e
+
+-- none of those of the extents from one index on and below another
+abbrev pub NoneInRun : Shape → List Record → Sought → Wanted → ℕ → ℕ → Type 0
+NoneInRun sh R q w from to = (index : ℕ) (e : Extent) → extent_at (extents_of R q.obj) index ≡ Some e → from ≤ index → index < to → NoneIn sh R q w index e
+
+abbrev pub NoneGoodInGroup : Shape → List Record → Sought → ℕ → Type 0
+NoneGoodInGroup sh R q start = NoneInGroup sh R q wanted.Good start
 
 -- it stands in this extent, where there is one
 abbrev pub is_within : Shape → Option ℕ → ℕ → Bool

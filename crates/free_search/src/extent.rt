@@ -1,15 +1,20 @@
-// One extent of a table: its blocks, and the best of their codes.
+// The blocks of an extent of a table, and the next extent that may have a good one.
 ghost use Rattle.std.specs.Prelude.{ℕ, ◌≡◌, ◌≤◌, ◌<◌, ◌+◌, true, None, List, length, Some, IfOk, IfErr, IsOk};
-ghost use Rattle.seg_words.specs.Types.{EXTENTS_OF_L2, MOST_BLOCKS, is_shape};
+ghost use Rattle.seg_words.specs.Types.{EXTENTS_OF_L2, MOST_BLOCKS, Shape as TheShape, is_shape};
 ghost use Rattle.redo_model.specs.Records.{Record};
-ghost use Rattle.redo_model.specs.Model.{Extent, IsTable, best_in_l1, block_in as block_at, extent_at, extents_of, group_start as start_of, l2_of};
+ghost use Rattle.redo_model.specs.Model.{Extent, IsTable, block_in as block_at, extent_at, extents_of, group_start as start_of, l2_of};
+ghost use Rattle.page_says.specs.Levels.{SaysSecond};
 ghost use Rattle.store_core.specs.Causes.{HasLooked, IsSoundFault};
 ghost use Rattle.store_core.specs.Store.{IsFetched, IsTrue};
+ghost use Rattle.free_search.specs.Codes.{LacksGood, LacksGoodNth};
 ghost use Rattle.free_search.specs.Looks.{HasSegment};
 
+use crate::look::Wanted;
+use crate::place::has_code;
 use data_places::block_in;
 use disk_model::Disk;
-use seg_base::{Dba, EXTENTS_OF_L2, Shape};
+use page_set::Page;
+use seg_base::{Dba, Shape};
 use segment_read::{Segment, WrongPage, best_of_extent};
 use store_core::{Store, StoreFault};
 use store_read::extent_number;
@@ -45,59 +50,95 @@ pub fn block_of<D: Disk>(
     }
 }
 
-/// The index of the first extent of those that the second level covers which covers the extent at this index.
-fn group_start(index: u16) -> u16
-    ensures value { result ≡ start_of index }
-    ensures most { result ≤ index }
+/// The first number from one on, and below another, of an extent which the page of a second level says may have a block with a
+/// kept class from Fs1 to Fs4: the other where there is none.
+fn next_in(page: &Page, from: u16, to: u16) -> Result<u16, WrongPage>
+    requires { from ≤ to }
+    ensures says { (sh : TheShape) (R : List Record) (o start : ℕ) → SaysSecond sh R o start page.now → IfOk result (LacksGoodNth sh R o start from) }
+    ensures right { (sh : TheShape) (R : List Record) (o start : ℕ) → SaysSecond sh R o start page.now → to ≤ EXTENTS_OF_L2 → IsOk result }
+    ensures within { IfOk result (λ n. (from ≤ n) × (n ≤ to)) }
 {
-    if usize::from(index) < EXTENTS_OF_L2 {
-        return 0;
+    for nth in from..to {
+        match best_of_extent(page, nth) {
+            Ok(best) => {
+                if has_code(&Wanted::Good, best) {
+                    return Ok(nth);
+                }
+            }
+            Err(wrong) => return Err(wrong),
+        }
     }
-    if usize::from(index) < 2 * EXTENTS_OF_L2 {
-        return EXTENTS_OF_L2 as u16;
-    }
-    (2 * EXTENTS_OF_L2) as u16
+    Ok(to)
 }
 
-fn told_best<D: Disk>(store: &Store<D>, second: Dba, nth: u16) -> Result<u8, WrongPage>
-    requires { IsFetched second store.now }
-    ensures says { (R : List Record) (o index : ℕ) (e : Extent) → IsTrue D.meaning R store.now → extent_at (extents_of R o) (start_of index) ≡ Some e → second ≡ l2_of store.now.shape (extents_of R o) index → IfOk result (λ c. c ≡ best_in_l1 store.now.shape R o (start_of index + nth)) }
-    ensures right { (R : List Record) (o index : ℕ) (e : Extent) → IsTrue D.meaning R store.now → extent_at (extents_of R o) (start_of index) ≡ Some e → second ≡ l2_of store.now.shape (extents_of R o) index → nth < EXTENTS_OF_L2 → IsOk result }
+fn told_next<D: Disk>(
+    store: &Store<D>,
+    second: Dba,
+    start: u16,
+    from: u16,
+    to: u16,
+) -> Result<u16, WrongPage>
+    requires fetched { IsFetched second store.now }
+    requires range { from ≤ to }
+    requires group { start_of start ≡ start }
+    ensures says { (R : List Record) (o : ℕ) (e : Extent) → IsTrue D.meaning R store.now → extent_at (extents_of R o) start ≡ Some e → second ≡ l2_of store.now.shape (extents_of R o) start → IfOk result (LacksGoodNth store.now.shape R o start from) }
+    ensures right { (R : List Record) (o : ℕ) (e : Extent) → IsTrue D.meaning R store.now → extent_at (extents_of R o) start ≡ Some e → second ≡ l2_of store.now.shape (extents_of R o) start → to ≤ EXTENTS_OF_L2 → IsOk result }
+    ensures within { IfOk result (λ n. (from ≤ n) × (n ≤ to)) }
 {
-    best_of_extent(store.frame(second), nth)
+    next_in(store.frame(second), from, to)
 }
 
-/// The best that a second level says of the nth extent that it covers.
-fn best_in<D: Disk>(store: &mut Store<D>, second: Dba, nth: u16) -> Result<u8, StoreFault>
+/// The same by the second level itself, which covers extents of a table from the one with index `start` on.
+fn next_by_second<D: Disk>(
+    store: &mut Store<D>,
+    second: Dba,
+    start: u16,
+    from: u16,
+    to: u16,
+) -> Result<u16, StoreFault>
+    requires range { from ≤ to }
+    requires group { start_of start ≡ start }
     ensures looked { HasLooked D.meaning store.old store.new result }
-    ensures says { (R : List Record) (o index : ℕ) (e : Extent) → IsTrue D.meaning R store.old → extent_at (extents_of R o) (start_of index) ≡ Some e → second ≡ l2_of store.old.shape (extents_of R o) index → IfOk result (λ c. c ≡ best_in_l1 store.old.shape R o (start_of index + nth)) }
-    ensures sound { (R : List Record) (o index : ℕ) (e : Extent) → IsTrue D.meaning R store.old → IsTable R o → extent_at (extents_of R o) (start_of index) ≡ Some e → second ≡ l2_of store.old.shape (extents_of R o) index → nth < EXTENTS_OF_L2 → store.old.fault ≡ None → IfErr result IsSoundFault }
+    ensures says { (R : List Record) (o : ℕ) (e : Extent) → IsTrue D.meaning R store.old → extent_at (extents_of R o) start ≡ Some e → second ≡ l2_of store.old.shape (extents_of R o) start → IfOk result (LacksGoodNth store.old.shape R o start from) }
+    ensures sound { (R : List Record) (o : ℕ) (e : Extent) → IsTrue D.meaning R store.old → IsTable R o → extent_at (extents_of R o) start ≡ Some e → second ≡ l2_of store.old.shape (extents_of R o) start → to ≤ EXTENTS_OF_L2 → store.old.fault ≡ None → IfErr result IsSoundFault }
+    ensures within { IfOk result (λ n. (from ≤ n) × (n ≤ to)) }
 {
     match store.fetch(second) {
         Ok(()) => {}
         Err(fault) => return Err(fault),
     }
-    match told_best(store, second, nth) {
-        Ok(best) => Ok(best),
+    match told_next(store, second, start, from, to) {
+        Ok(nth) => Ok(nth),
         Err(_) => Err(store.refuse(second)),
     }
 }
 
-/// The best code from Fs1 on among the data blocks of the extent at an index of a table, else 0, by its second level.
-pub fn best_at<D: Disk>(
+/// The first index from one on, and below another, of an extent of a table which may have a block with a kept class from Fs1 to
+/// Fs4, by the second level that covers them: the other index where there is none. The first extent that it covers has index
+/// `start`.
+pub fn next_good<D: Disk>(
     store: &mut Store<D>,
     segment: &Segment,
     shape: &Shape,
+    start: u16,
     index: u16,
-) -> Result<u8, StoreFault>
-    requires { is_shape shape.now ≡ true }
+    to: u16,
+) -> Result<u16, StoreFault>
+    requires shape { is_shape shape.now ≡ true }
+    requires group { start_of start ≡ start }
+    requires order { start ≤ index }
+    requires range { index ≤ to }
     ensures looked { HasLooked D.meaning store.old store.new result }
-    ensures says { (R : List Record) → IsTrue D.meaning R store.old → HasSegment store.old.shape R shape.now segment.now → index < length (extents_of R segment.now.obj) → IfOk result (λ c. c ≡ best_in_l1 shape.now R segment.now.obj index) }
-    ensures sound { (R : List Record) → IsTrue D.meaning R store.old → HasSegment store.old.shape R shape.now segment.now → index < length (extents_of R segment.now.obj) → store.old.fault ≡ None → IfErr result IsSoundFault }
+    ensures says { (R : List Record) → IsTrue D.meaning R store.old → HasSegment store.old.shape R shape.now segment.now → start < length (extents_of R segment.now.obj) → IfOk result (LacksGood shape.now R segment.now.obj index) }
+    ensures sound { (R : List Record) → IsTrue D.meaning R store.old → HasSegment store.old.shape R shape.now segment.now → start < length (extents_of R segment.now.obj) → to ≤ start + EXTENTS_OF_L2 → store.old.fault ≡ None → IfErr result IsSoundFault }
+    ensures within { IfOk result (λ n. (index ≤ n) × (n ≤ to)) }
 {
-    let start = group_start(index);
-    match block_of(store, segment, shape, start, 1) {
-        Ok(second) => best_in(store, second, index - start),
+    let second = match block_of(store, segment, shape, start, 1) {
+        Ok(second) => second,
+        Err(fault) => return Err(fault),
+    };
+    match next_by_second(store, second, start, index - start, to - start) {
+        Ok(nth) => Ok(start + nth),
         Err(fault) => Err(fault),
     }
 }

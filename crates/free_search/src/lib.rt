@@ -4,6 +4,7 @@
 
 mod extent;
 mod fault;
+mod group;
 mod look;
 mod mark;
 mod place;

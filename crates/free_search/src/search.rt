@@ -1,6 +1,6 @@
 // The search of a block for a row.
 ghost use Rattle.std.specs.Prelude.{◌≡◌, ◌≤◌, true, None, Some, Ok, Err, List, find, IfOk, IfErr};
-ghost use Rattle.seg_words.specs.Types.{MOST_PCTFREE, Shape as TheShape, is_shape};
+ghost use Rattle.seg_words.specs.Types.{MOST_EXTENTS, MOST_PCTFREE, Shape as TheShape, is_shape};
 ghost use Rattle.redo_model.specs.Records.{Record};
 ghost use Rattle.redo_model.specs.Model.{IsTable, under_high};
 ghost use Rattle.mark_laws.specs.Movements.{next_mark};
@@ -12,9 +12,9 @@ ghost use Rattle.free_search.specs.Answers.{IsRefusedBy, IsSoundFind, fault_of, 
 ghost use Rattle.free_search.specs.Looks.{Knows, row_sought, sought};
 
 use crate::FindFault;
+use crate::group::first_in_table;
 use crate::look::{Look, Row, Wanted, look_at};
 use crate::mark::next_of_segment;
-use crate::walk::first_in_table;
 use disk_model::Disk;
 use mark_laws::Found;
 use seg_base::{Dba, MOST_EXTENTS, Obj, Taker};
@@ -28,6 +28,7 @@ fn hinted_block<D: Disk>(
     hint: Option<u32>,
 ) -> Result<Option<Dba>, StoreFault>
     requires shape { is_shape look.now.shape ≡ true }
+    requires most { look.now.segment.extents ≤ MOST_EXTENTS }
     requires percent { look.now.segment.pctfree ≤ MOST_PCTFREE }
     requires unspent { store.old.fault ≡ None }
     ensures looked { HasLooked D.meaning store.old store.new result }
@@ -47,6 +48,7 @@ fn good_block<D: Disk>(
     hint: Option<u32>,
 ) -> Result<Option<Dba>, StoreFault>
     requires shape { is_shape look.now.shape ≡ true }
+    requires most { look.now.segment.extents ≤ MOST_EXTENTS }
     requires percent { look.now.segment.pctfree ≤ MOST_PCTFREE }
     requires unspent { store.old.fault ≡ None }
     ensures looked { HasLooked D.meaning store.old store.new result }
@@ -63,6 +65,7 @@ fn good_block<D: Disk>(
 /// The first block that takes the row, whatever its kept class.
 fn usable_block<D: Disk>(store: &mut Store<D>, look: &Look) -> Result<Option<Found>, StoreFault>
     requires shape { is_shape look.now.shape ≡ true }
+    requires most { look.now.segment.extents ≤ MOST_EXTENTS }
     requires percent { look.now.segment.pctfree ≤ MOST_PCTFREE }
     requires unspent { store.old.fault ≡ None }
     ensures looked { HasLooked D.meaning store.old store.new result }

@@ -1,18 +1,19 @@
-// The first block of a table that is what is wanted, in order of position: extent by extent, by the codes of their bitmaps.
-ghost use Rattle.std.specs.Prelude.{ℕ, ◌≡◌, ◌≤◌, ◌<◌, ◌+◌, ◌-◌, min, true, false, None, Some, List, length, find, IfOk, IfErr};
-ghost use Rattle.seg_words.specs.Types.{MOST_BLOCKS, MOST_EXTENT_BLOCKS, MOST_PCTFREE, head_blocks as heads_of, is_shape};
+// The first block that is what is wanted among those of some extents of a table, in order of position: extent by extent, by the
+// codes of their bitmaps.
+ghost use Rattle.std.specs.Prelude.{ℕ, ◌≡◌, ◌≤◌, ◌<◌, ◌+◌, ◌-◌, min, true, None, List, length, IfOk, IfErr};
+ghost use Rattle.seg_words.specs.Types.{EXTENTS_OF_L2, MOST_BLOCKS, MOST_EXTENTS, MOST_EXTENT_BLOCKS, MOST_PCTFREE, head_blocks as heads_of, is_shape};
 ghost use Rattle.redo_model.specs.Records.{Record};
-ghost use Rattle.redo_model.specs.Model.{Extent, data_blocks, extent_at, extents_of, under_high};
+ghost use Rattle.redo_model.specs.Model.{Extent, data_blocks, extents_of, group_start};
 ghost use Rattle.data_places.specs.Places.{data_count};
 ghost use Rattle.store_core.specs.Causes.{HasLooked, IsSoundFault};
 ghost use Rattle.store_core.specs.Store.{IsTrue};
-ghost use Rattle.free_search.specs.Looks.{IsFirstBlock, Knows, NoneGoodIn, NoneIn, is_elsewhere, passes, passes_in, row_sought};
+ghost use Rattle.free_search.specs.Looks.{IsFirstBlock, Knows, NoneInRun, is_elsewhere, passes, passes_in, row_sought};
 ghost use Rattle.free_search.specs.Walks.{FirstOf, FirstWithin};
 
-use crate::extent::best_at;
+use crate::extent::next_good;
 use crate::look::{Look, Wanted};
-use crate::place::{block_at, has_code};
-use data_places::{block_in, head_blocks};
+use crate::place::block_at;
+use data_places::{block_in, data_count, head_blocks};
 use disk_model::Disk;
 use seg_base::{Dba, Shape};
 use store_core::{Store, StoreFault};
@@ -43,66 +44,6 @@ fn first_in_blocks<D: Disk>(
         }
     }
     Ok(None)
-}
-
-/// Whether the extent at an index may have a block with a kept class from Fs1 to Fs4, by its second level.
-fn may_have_good<D: Disk>(store: &mut Store<D>, look: &Look, index: u16) -> Result<bool, StoreFault>
-    requires shape { is_shape look.now.shape ≡ true }
-    requires unspent { store.old.fault ≡ None }
-    ensures looked { HasLooked D.meaning store.old store.new result }
-    ensures says { (R : List Record) (e : Extent) → IsTrue D.meaning R store.old → Knows store.old.shape R look.now → extent_at (extents_of R look.now.segment.obj) index ≡ Some e → IfOk result (λ y. y ≡ false → NoneGoodIn look.now.shape R (row_sought look.now) index e) }
-    ensures sound { (R : List Record) → IsTrue D.meaning R store.old → Knows store.old.shape R look.now → index < length (extents_of R look.now.segment.obj) → IfErr result IsSoundFault }
-{
-    match best_at(store, &look.segment, &look.shape, index) {
-        Ok(best) => Ok(has_code(&Wanted::Good, best)),
-        Err(fault) => Err(fault),
-    }
-}
-
-/// Whether the extent at an index may have a block that is wanted.
-fn may_have<D: Disk>(
-    store: &mut Store<D>,
-    look: &Look,
-    wanted: &Wanted,
-    index: u16,
-) -> Result<bool, StoreFault>
-    requires shape { is_shape look.now.shape ≡ true }
-    requires unspent { store.old.fault ≡ None }
-    ensures looked { HasLooked D.meaning store.old store.new result }
-    ensures says { (R : List Record) (e : Extent) → IsTrue D.meaning R store.old → Knows store.old.shape R look.now → extent_at (extents_of R look.now.segment.obj) index ≡ Some e → IfOk result (λ y. y ≡ false → NoneIn look.now.shape R (row_sought look.now) wanted.now index e) }
-    ensures sound { (R : List Record) → IsTrue D.meaning R store.old → Knows store.old.shape R look.now → index < length (extents_of R look.now.segment.obj) → IfErr result IsSoundFault }
-{
-    match wanted {
-        Wanted::Usable => Ok(true),
-        Wanted::Good => may_have_good(store, look, index),
-    }
-}
-
-/// The first one among those blocks of the extent at this index, which is passed over where its second level says that it has
-/// none.
-fn first_there<D: Disk>(
-    store: &mut Store<D>,
-    look: &Look,
-    wanted: &Wanted,
-    index: u16,
-    first: Dba,
-    from: u16,
-    to: u16,
-) -> Result<Option<Dba>, StoreFault>
-    requires shape { is_shape look.now.shape ≡ true }
-    requires percent { look.now.segment.pctfree ≤ MOST_PCTFREE }
-    requires first { first ≤ MOST_BLOCKS }
-    requires few { to ≤ MOST_EXTENT_BLOCKS }
-    requires unspent { store.old.fault ≡ None }
-    ensures looked { HasLooked D.meaning store.old store.new result }
-    ensures says { (R : List Record) (e : Extent) → IsTrue D.meaning R store.old → Knows store.old.shape R look.now → IsFirstBlock look.now.shape R look.now.segment.obj index e first → heads_of index ≤ from → to ≤ look.now.shape.extent → IfOk result (FirstOf (passes look.now.shape R (row_sought look.now) wanted.now) first from to) }
-    ensures sound { (R : List Record) (e : Extent) → IsTrue D.meaning R store.old → Knows store.old.shape R look.now → IsFirstBlock look.now.shape R look.now.segment.obj index e first → heads_of index ≤ from → to ≤ look.now.shape.extent → IfErr result IsSoundFault }
-{
-    match may_have(store, look, wanted, index) {
-        Ok(true) => first_in_blocks(store, look, wanted, first, from, to),
-        Ok(false) => Ok(None),
-        Err(fault) => Err(fault),
-    }
 }
 
 /// Whether blocks of another extent alone are wanted.
@@ -164,34 +105,76 @@ fn first_in_extent<D: Disk>(
     };
     let head = head_blocks(index);
     let count = room_under(look, index, passed);
-    first_there(store, look, wanted, index, first, head, head + count)
+    first_in_blocks(store, look, wanted, first, head, head + count)
 }
 
-/// The first one of a table under its high mark, in one extent alone where that is given by its number.
-pub fn first_in_table<D: Disk>(
+/// The first index from one on, and below another, of an extent that may have a block that is wanted: the other where there is
+/// none. Of a good block the second level says so; the first extent that it covers has index `start`.
+fn next_index<D: Disk>(
+    store: &mut Store<D>,
+    look: &Look,
+    wanted: &Wanted,
+    start: u16,
+    index: u16,
+    to: u16,
+) -> Result<u16, StoreFault>
+    requires shape { is_shape look.now.shape ≡ true }
+    requires group { group_start start ≡ start }
+    requires order { start ≤ index }
+    requires range { index < to }
+    requires few { to ≤ look.now.segment.extents }
+    requires unspent { store.old.fault ≡ None }
+    ensures looked { HasLooked D.meaning store.old store.new result }
+    ensures says { (R : List Record) → IsTrue D.meaning R store.old → Knows store.old.shape R look.now → IfOk result (NoneInRun look.now.shape R (row_sought look.now) wanted.now index) }
+    ensures sound { (R : List Record) → IsTrue D.meaning R store.old → Knows store.old.shape R look.now → to ≤ start + EXTENTS_OF_L2 → IfErr result IsSoundFault }
+    ensures within { IfOk result (λ n. (index ≤ n) × (n ≤ to)) }
+{
+    match wanted {
+        Wanted::Usable => Ok(index),
+        Wanted::Good => next_good(store, &look.segment, &look.shape, start, index, to),
+    }
+}
+
+/// The first one under the high mark among those of the extents from one index on and below another, which one second level
+/// covers, the first of them first.
+pub fn first_in_extents<D: Disk>(
     store: &mut Store<D>,
     look: &Look,
     wanted: &Wanted,
     only: Option<u32>,
+    from: u16,
+    to: u16,
 ) -> Result<Option<Dba>, StoreFault>
     requires shape { is_shape look.now.shape ≡ true }
+    requires most { look.now.segment.extents ≤ MOST_EXTENTS }
     requires percent { look.now.segment.pctfree ≤ MOST_PCTFREE }
+    requires group { group_start from ≡ from }
+    requires covered { to ≤ from + EXTENTS_OF_L2 }
+    requires few { to ≤ look.now.segment.extents }
     requires unspent { store.old.fault ≡ None }
     ensures looked { HasLooked D.meaning store.old store.new result }
-    ensures says { (R : List Record) → IsTrue D.meaning R store.old → Knows store.old.shape R look.now → IfOk result (λ r. r ≡ find (passes_in look.now.shape R (row_sought look.now) wanted.now only) (under_high look.now.shape R look.now.segment.obj)) }
+    ensures says { (R : List Record) → IsTrue D.meaning R store.old → Knows store.old.shape R look.now → IfOk result (FirstWithin (passes_in look.now.shape R (row_sought look.now) wanted.now only) (data_blocks look.now.shape R look.now.segment.obj) look.now.segment.high (data_count look.now.shape from) (data_count look.now.shape to)) }
     ensures sound { (R : List Record) → IsTrue D.meaning R store.old → Knows store.old.shape R look.now → IfErr result IsSoundFault }
 {
-    let mut passed = 0;
-    for index in 0..look.segment.extents {
+    let mut index = from;
+    'extents: while index < to {
+        let next = match next_index(store, look, wanted, from, index, to) {
+            Ok(next) => next,
+            Err(fault) => return Err(fault),
+        };
+        if next >= to {
+            return Ok(None);
+        }
+        let passed = data_count(&look.shape, next);
         if passed >= look.segment.high {
             return Ok(None);
         }
-        match first_in_extent(store, look, wanted, only, index, passed) {
+        match first_in_extent(store, look, wanted, only, next, passed) {
             Err(fault) => return Err(fault),
             Ok(Some(dba)) => return Ok(Some(dba)),
             Ok(None) => {}
         }
-        passed += data_room(&look.shape, index);
+        index = next + 1;
     }
     Ok(None)
 }

@@ -4,6 +4,7 @@ use disk_model::Memory;
 use free_search::{FindFault, Found, MarkStep, find, next_mark};
 use mark_move::{MarkFault, movement, new_table, step};
 use seg_base::{Dba, Name, Obj, Shape, Taker};
+use space_usage::{FixFault, fix_status};
 use std::alloc::Global;
 use std::test::Fail;
 use store_core::{Store, StoreFault, prepare};
@@ -13,6 +14,18 @@ use store_read::read_segment;
 fn formatted(alloc: Global) -> Result<Memory, Fail> {
     let shape = Shape {
         blocks: 64,
+        extent: 8,
+        undo: 2,
+    };
+    let mut disk = Memory::new(alloc, b"", b"", &[])?;
+    format(&mut disk, shape)?;
+    Ok(disk)
+}
+
+// The same with 907 extents.
+fn formatted_large(alloc: Global) -> Result<Memory, Fail> {
+    let shape = Shape {
+        blocks: 7_300,
         extent: 8,
         undo: 2,
     };
@@ -124,5 +137,76 @@ fn a_search_is_refused_at_the_end(rt: HostRuntime) -> Result<(), Fail> {
     assert_eq!(rt; found, Ok(Found::Block(Dba(49))));
     let found = hinted(alloc, &mut store, Some(9), None, None);
     assert_eq!(rt; found, Ok(Found::Block(Dba(43))));
+    Ok(())
+}
+
+// Moves the marks until they can't move, and answers how often they did.
+fn move_on(store: &mut Store<Memory>) -> Result<u16, StoreFault> {
+    for moves in 0..9_000 {
+        match next_mark(store, Obj(1))? {
+            Some(next) => step(store, Obj(1), next)?,
+            None => return Ok(moves),
+        }
+    }
+    Ok(9_000)
+}
+
+// Keeps the class of a value for the data blocks from one block on and before another.
+fn keep(
+    alloc: Global,
+    store: &mut Store<Memory>,
+    from: u32,
+    to: u32,
+    value: u32,
+) -> Result<(), FixFault> {
+    for dba in from..to {
+        match fix_status(alloc, store, Obj(1), Dba(dba), Some(value)) {
+            Ok(_) => {}
+            Err(FixFault::NotDataBlock { .. }) => {}
+            Err(fault) => return Err(fault),
+        }
+    }
+    Ok(())
+}
+
+#[test]
+fn kept_classes_lead_a_search(rt: HostRuntime) -> Result<(), Fail> {
+    let alloc = rt.alloc();
+    let mut disk = formatted(alloc)?;
+    let loaded = prepare(alloc, &mut disk)?;
+    let mut store = Store::over(&mut disk, loaded);
+    assert_eq!(rt; make(alloc, &mut store, b"t"), Ok(Obj(1)));
+    assert_eq!(rt; move_on(&mut store)?, 23);
+    keep(alloc, &mut store, 39, 63, 1)?;
+    let found = hinted(alloc, &mut store, Some(2), None, None);
+    assert_eq!(rt; found, Ok(Found::Block(Dba(43))));
+    keep(alloc, &mut store, 57, 58, 2)?;
+    let found = hinted(alloc, &mut store, Some(1), None, None);
+    assert_eq!(rt; found, Ok(Found::Block(Dba(57))));
+    let found = hinted(alloc, &mut store, None, Some(Dba(57)), None);
+    assert_eq!(rt; found, Ok(Found::Block(Dba(43))));
+    Ok(())
+}
+
+// The first block of extent x is 39 + 8x. Of 900 extents the first has four data blocks, those with index 300 and 600 have six,
+// each other one has seven: 6,295 blocks to be formatted, 899 extents to be had, and the marks move up once for each extent.
+#[test]
+fn a_table_has_at_most_900_extents(rt: HostRuntime) -> Result<(), Fail> {
+    let alloc = rt.alloc();
+    let mut disk = formatted_large(alloc)?;
+    let loaded = prepare(alloc, &mut disk)?;
+    let mut store = Store::over(&mut disk, loaded);
+    assert_eq!(rt; make(alloc, &mut store, b"t"), Ok(Obj(1)));
+    assert_eq!(rt; move_on(&mut store)?, 8_094);
+    let refused = FindFault::MaxExtents { count: 900 };
+    assert_eq!(rt; search(alloc, &mut store, 5_000), Err(refused));
+    let found = hinted(alloc, &mut store, Some(899), None, None);
+    assert_eq!(rt; found, Ok(Found::Block(Dba(7_232))));
+    keep(alloc, &mut store, 39, 7_238, 1)?;
+    assert_eq!(rt;
+        search(alloc, &mut store, 1_800),
+        Ok(Found::Block(Dba(7_238)))
+    );
+    assert_eq!(rt; make(alloc, &mut store, b"next"), Ok(Obj(2)));
     Ok(())
 }

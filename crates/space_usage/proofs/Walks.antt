@@ -26,7 +26,7 @@ use Rattle.store_core.specs.Causes.{HasLooked, IsSoundFault}
 use Rattle.store_core.specs.declared.fault.StoreFault.{StoreFault}
 use Rattle.store_core.proofs.Lookups.{looked_on, looked_ok, looked_same}
 use Rattle.space_usage.specs.declared.walking.Coded.{Coded}
-use Rattle.space_usage.specs.declared.counts.Usage.{Usage}
+use Rattle.history_text.specs.declared.outcome.Usage.{Usage}
 use Rattle.space_usage.specs.Counting.{passes_at, count_to, keeps, is_inexact, IsUsageTo, with_code, AreAtMost, Knows, IsCoded, PlaceOf}
 use Rattle.space_usage.proofs.Bitmaps.{table_has}
 

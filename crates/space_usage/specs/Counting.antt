@@ -11,7 +11,7 @@ use Rattle.segment_read.specs.declared.segment.Segment.{Segment}
 use Rattle.segment_read.specs.Segments.{IsSegment}
 use Rattle.store_core.specs.Store.{Held, IsTrue}
 use Rattle.space_usage.specs.declared.walking.Coded.{Coded}
-use Rattle.space_usage.specs.declared.counts.Usage.{Usage}
+use Rattle.history_text.specs.declared.outcome.Usage.{Usage}
 
 -- how many of the first n of these blocks pass
 

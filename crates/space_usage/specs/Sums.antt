@@ -3,7 +3,7 @@ use Rattle.std.specs.Prelude.{◌≡◌, ℕ, ◌+◌, List}
 use Rattle.seg_words.specs.Types.{Shape}
 use Rattle.redo_model.specs.Records.{Record}
 use Rattle.redo_model.specs.Model.{IsTable, AreAllowed}
-use Rattle.space_usage.specs.declared.counts.Usage.{Usage}
+use Rattle.history_text.specs.declared.outcome.Usage.{Usage}
 use Rattle.space_usage.specs.Counting.{IsUsage}
 
 -- each position under the high mark is counted once

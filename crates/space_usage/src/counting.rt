@@ -8,11 +8,12 @@ ghost use Rattle.store_core.specs.Causes.{HasLooked, IsSoundFault};
 ghost use Rattle.store_core.specs.Store.{IsTrue};
 ghost use Rattle.space_usage.specs.Counting.{IsCoded, IsUsage, Knows, inexact_count, is_inexact};
 
-use crate::counts::{Usage, none_of, one_if, with_code};
+use crate::counts::{none_of, one_if, with_code};
 use crate::keeping::ClassOf;
 use crate::walking::{Coded, coded_at};
 use data_places::place_at;
 use disk_model::Disk;
+use history_text::Usage;
 use seg_base::{CATALOGUE_BLOCK, Dba, Obj, Shape, class_code};
 use segment_read::Segment;
 use std::alloc::Global;

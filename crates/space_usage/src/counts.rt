@@ -3,23 +3,9 @@ ghost use Rattle.std.specs.Prelude.{◌≡◌, ◌≤◌, ◌^◌, ◌-◌, cond
 ghost use Rattle.seg_words.specs.Types.{class_code};
 ghost use Rattle.space_usage.specs.Counting.{AreAtMost, with_code};
 
+use history_text::Usage;
 use seg_base::{Class, class_code};
 use segment_read::Segment;
-
-/// The blocks of a table under its high mark by their kept classes, its low and high mark in data blocks, and how many extents it
-/// has.
-#[derive(Clone, Copy, Debug, PartialEq, Eq, Drop)]
-pub struct Usage {
-    pub unformatted: u32,
-    pub fs1: u32,
-    pub fs2: u32,
-    pub fs3: u32,
-    pub fs4: u32,
-    pub full: u32,
-    pub low: u32,
-    pub high: u32,
-    pub extents: u16,
-}
 
 /// One for a block that passes, else none.
 pub fn one_if(passes: bool) -> u32

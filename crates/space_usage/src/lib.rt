@@ -17,7 +17,6 @@ mod settling;
 mod walking;
 
 pub use counting::{inexact, usage};
-pub use counts::Usage;
 pub use fault::FixFault;
 pub use fixing::fix_status;
 pub use laws::usages_add_up;

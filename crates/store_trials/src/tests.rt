@@ -6,6 +6,7 @@ mod moving;
 mod opening;
 mod records;
 mod rows;
+mod settling;
 mod stopping;
 
 ghost use Rattle.std.specs.Prelude.{◌≤◌, length};

@@ -132,7 +132,7 @@ added_stays meaning x own a b y at loan n h = record {
 }
 
 pub stayed_at : {D : Type 0} (meaning : Meaning D) (x : Span) (own : Option ℕ) (a b : Held D) → IsAt meaning x own a → HasStayed meaning x a b → IsAt meaning x own b
-stayed_at meaning x own a b at h = record { stands = h.stands; unspent = h.unspent; few = at.few; own_is = at.own_is }
+stayed_at meaning x own a b at h = record { stands = h.stands; unspent = h.unspent; own_is = at.own_is }
 
 turns_as : (sh sh' : Shape) (x : Span) (st : Option Statement) (R : List Record) (r : Result Acted StoreFault) → sh' ≡ sh → IfOk r (Turns sh' x st R) → IfOk r (Turns sh x st R)
 turns_as sh sh' x st R r e h = subst (λ (z : Shape). IfOk r (Turns z x st R)) e h

@@ -43,7 +43,7 @@ use Rattle.session_core.proofs.MakingTables.{refusal_over}
 
 pub so_refused : (sh : Shape) (x : Span) (st : Statement) (y : Refusal) (own : Option ℕ) → IsRefusedSo sh x st y → own_backed x.ended x.session ≡ false → own_of x.ended x.session ≡ own
     → Turns sh x (Some st) x.ended (record { turned = turned.Over (outcome.Refused y) kept.Nothing; own = own })
-so_refused sh x st y own r b o = record { turns = refusal_over sh x st y r b; own = o }
+so_refused sh x st y own r b o = record { turns = refusal_over sh x st y r b; own = o; kept = tt }
 
 -- a call that stays with the records is refused
 pub stands_refused : {D : Type 0} (meaning : Meaning D) (x : Span) (st : Statement) (y : Refusal) (own : Option ℕ) (a b : Held D) → IsAt meaning x own a → own_backed x.ended x.session ≡ false → SameLoan meaning a b → a.log.stable ≤ b.log.stable

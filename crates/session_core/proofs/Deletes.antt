@@ -53,6 +53,7 @@ use Rattle.session_core.specs.declared.turned.Turned.TheVariants as turned
 use Rattle.session_core.specs.declared.turned.Acted.{Acted}
 use Rattle.session_core.specs.Acting.{IsAt, Turns, HasActed, HasCalled}
 use Rattle.session_core.specs.Inserts.{IsBy}
+use Rattle.session_core.specs.Located.{KeepsPlace, WasAt}
 use Rattle.session_core.specs.Changes.{IsRowChange, IsChanging, StartsAgain, GoesAgain, StopsAgain, IsNotChanged, deleted, TellsDelete, refused_as}
 use Rattle.session_core.specs.RowWorks.{starts_of, found_at, found_in, work_of}
 use Rattle.session_core.proofs.Calls.{acts_none, called_ok, called_err}
@@ -77,6 +78,10 @@ stands_on meaning x st own a b z at loan stable stands t = record { records = x.
 stands_fails : {D : Type 0} (meaning : Meaning D) (x : Span) (st : Statement) (own : Option ℕ) (a b : Held D) → IsAt meaning x own a → SameLoan meaning a b → a.log.stable ≤ b.log.stable → Stands meaning x.ended x.ended a b → HasActed meaning x (Some st) a b (Err NoMemory)
 stands_fails meaning x st own a b at loan stable stands = record { records = x.ended; stands = stands.list; acts = acts_none a.shape x (Some st); stable = stable; survives = stands.survives; time = loan.time x.ended at.stands.list; turns = tt; sound = tt }
 
+-- the next start has no place yet
+none_kept : (sh : Shape) (R : List Record) (own : Option ℕ) (w : ToldWork) → found_in w.place ≡ None → KeepsPlace sh R own w
+none_kept sh R own w e = (elim w.place as (λ (q : Option Place). found_in q ≡ None → MatchOption q (Unit {0}) (WasAt sh R own w.obj w.row)) [ None ↦ λ z. tt | Some p ↦ λ z. none_some _ _ (sym z) ]) e
+
 goes_turns : {D : Type 0} (meaning : Meaning D) (x : Span) (st : Statement) (w : ToldWork) (own : Option ℕ) (a : Held D) (p : Place) (c : ℕ) (z : Acted) → IsAt meaning x own a → IsChanging a.shape x st (work_of w) → w.place ≡ Some p → IsChanged x.ended p.start w.row c → GoesAgain w c own z → Turns a.shape x (Some st) x.ended z
 goes_turns meaning x st w own a p c z at k e h g =
     subst (λ (y : Acted). Turns a.shape x (Some st) x.ended y) (sym g.is) (record {
@@ -87,6 +92,7 @@ goes_turns meaning x st w own a p c z at k e h g =
         whole = λ _. k.whole;
       };
       own = at.own_is;
+      kept = none_kept a.shape x.ended own g.work (ap (λ (q : RowWork). q.place) g.noted_is);
     })
 
 stops_turns : {D : Type 0} (meaning : Meaning D) (x : Span) (st : Statement) (w : ToldWork) (own : Option ℕ) (a : Held D) (p : Place) (c : ℕ) (z : Acted) → IsAt meaning x own a → IsChanging a.shape x st (work_of w) → w.place ≡ Some p → IsChanged x.ended p.start w.row c → StopsAgain w c own z → Turns a.shape x (Some st) x.ended z
@@ -134,6 +140,7 @@ deleted_turns : (sh : Shape) (x : Span) (name : List ℕ) (target : Target) (nex
 deleted_turns sh x name target next row txn p tells o whole = record {
   turns = record { means = tells.means; passes = accepted_passes sh (later x next) (asked.Delete name target) (outcome.Deleted row) kept.Nothing refl p; whole = whole; closed = λ z. none_some _ _ (sym z) };
   own = o;
+  kept = tt;
 }
 
 delete_later : (sh : Shape) (x : Span) (E : List Record) (name : List ℕ) (target : Target) → FirstPass sh x (asked.Delete name target) → FirstPass sh (later x E) (asked.Delete name target)

@@ -1,5 +1,5 @@
 -- Commits, and transactions that are taken back.
-use Rattle.std.proofs.Common.{◌≡◌, ℕ, suc, ◌≤◌, true, false, List, ◌∷◌, Option, Some, None, refl, sym, ◌∙◌, ap, subst, inr, true≢false, eq-eqb}
+use Rattle.std.proofs.Common.{◌≡◌, ℕ, suc, ◌≤◌, true, false, List, ◌∷◌, length, Option, Some, None, refl, sym, ◌∙◌, ap, subst, inr, true≢false, eq-eqb, arith}
 use Rattle.std.specs.Prelude.{Ok, Err}
 use Rattle.seg_words.proofs.Lemmas.{cond-true}
 use Rattle.seg_words.specs.Types.{Shape}
@@ -38,6 +38,15 @@ use Rattle.session_core.specs.declared.turned.Turned.TheVariants as turned
 use Rattle.session_core.specs.Acting.{IsAt, IsStarting, Turns, HasActed}
 use Rattle.session_core.specs.Ends.{NoneLeft, MayRollBack}
 use Rattle.session_core.proofs.Calls.{acted_same, acted_adds}
+
+-- ---- how many records are stable
+
+-- a store counts its records
+counted : {D : Type 0} (meaning : Meaning D) (R : List Record) (s : Held D) → IsTrue meaning R s → s.log.count ≤ length R
+counted meaning R s h = let c = h.list.list.has.count in omega (arith, c)
+
+pub flushed : {D : Type 0} (meaning : Meaning D) (r : Record) (R : List Record) (s : Held D) → IsTrue meaning (r ∷ R) s → s.log.stable ≡ suc (length R) → s.log.count ≤ s.log.stable
+flushed meaning r R s h e = let c = counted meaning (r ∷ R) s h in omega (arith, c, e)
 
 -- ---- first tests: there are none
 
@@ -106,6 +115,7 @@ committed_turns sh x t n st o e =
         closed = λ z. none_some _ _ (sym z);
       };
       own = none;
+      kept = tt;
     })
   where
     R : List Record
@@ -150,6 +160,7 @@ nothing_committed meaning x s at st = acted_same meaning x (Some asked.Commit) N
     closed = λ z. none_some _ _ (sym z);
   };
   own = at.own_is;
+  kept = tt;
 })
 
 -- ---- a transaction that is taken back
@@ -190,6 +201,7 @@ taken_turns sh x st t y k o b =
     record {
       turns = record { passed = taken_passes sh (grown x (made.Back (back_of x.ended t y))) st k; fits = taken_fits sh (grown x (made.Back (back_of x.ended t y))) st t k g.stands; whole = λ e. absurd (true≢false e) };
       own = o;
+      kept = tt;
     }
 
 taken_acts : (sh : Shape) (x : Span) (st : Option Statement) (t : ℕ) (y : Step) → TakesBack st → BackStands x t → Acts sh x st (made.Back (back_of x.ended t y) ∷ x.ended)
@@ -219,6 +231,7 @@ ended_back {D} {T} meaning x st t y a b k at w loan h =
     (record {
       turns = record { means = g.means; passes = taken_over a.shape (grown x (made.Ended (ended_of x.ended t))) st k; whole = none_backed (made.Ended (ended_of x.ended t) ∷ x.ended) x.session g.none; closed = λ z. g.none };
       own = g.none;
+      kept = tt;
     })
 
 -- ---- how it begins
@@ -242,6 +255,7 @@ nothing_rolled meaning x (Some asked.Rollback) s k at st = acted_same meaning x 
     closed = λ z. none_some _ _ (sym z);
   };
   own = at.own_is;
+  kept = tt;
 })
 nothing_rolled meaning x st s k at h = absurd k
 

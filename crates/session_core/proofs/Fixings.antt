@@ -255,6 +255,7 @@ fixed_same meaning x name o block value own c a b at h there f e to loan stable 
         closed = λ z. none_some _ _ (sym z);
       };
       own = at.own_is;
+      kept = tt;
     })
 
 -- a Class keeps it
@@ -271,6 +272,7 @@ fixed_new meaning x name block value own k a b at h there f d to loan stable s =
         closed = λ z. none_some _ _ (sym z);
       };
       own = at.own_is;
+      kept = tt;
     })
 
 not_false : (v : Bool) → not v ≡ false → v ≡ true

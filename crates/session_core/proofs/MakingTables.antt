@@ -70,7 +70,7 @@ pub refusal_over : (sh : Shape) (x : Span) (st : Statement) (y : Refusal) → Is
 refusal_over sh x st y r b = record { means = refused_means sh (later x x.ended) st y kept.Nothing r.means; passes = r.passes; whole = b; closed = λ z. none_some _ _ (sym z) }
 
 refusal_turns : (sh : Shape) (x : Span) (st : Statement) (y : Refusal) (own : Option ℕ) → IsRefusedSo sh x st y → own_backed x.ended x.session ≡ false → own_of x.ended x.session ≡ own → Turns sh x (Some st) x.ended (record { turned = turned.Over (outcome.Refused y) kept.Nothing; own = own })
-refusal_turns sh x st y own r b o = record { turns = refusal_over sh x st y r b; own = o }
+refusal_turns sh x st y own r b o = record { turns = refusal_over sh x st y r b; own = o; kept = tt }
 
 pub first_turns : (sh : Shape) (x : Span) (st : Statement) (y : Refusal) (own : Option ℕ) → IsStarting x → IsRefusedFirst sh x st y → own_of x.ended x.session ≡ own → Turns sh x (Some st) x.ended (record { turned = turned.Over (outcome.Refused y) kept.Nothing; own = own })
 first_turns sh x st y own h r o = refusal_turns sh x st y own (first_is_refused sh x st y r.first h.at_once r.cause r.before) h.whole o
@@ -116,6 +116,7 @@ made_turns sh x name told pctfree e own same h o f =
         closed = λ z. none_some _ _ (sym z);
       };
       own = o;
+      kept = tt;
     })
 
 pub made_table : {D : Type 0} (meaning : Meaning D) (x : Span) (name told : List ℕ) (pctfree o : ℕ) (own : Option ℕ) (a b : Held D) → told ≡ name → IsAt meaning x own a → IsStarting x → FirstPass a.shape x (asked.Table name pctfree) → SameLoan meaning a b
@@ -198,6 +199,7 @@ switched {D} {T} meaning x name on o own a b y at h there f loan adds =
         closed = λ z. none_some _ _ (sym z);
       };
       own = at.own_is;
+      kept = tt;
     })
 
 pub begun_named : (x : Span) (name : List ℕ) (found : Option ℕ) → IsStarting x → table_named x.ended name ≡ found → table_named x.begun name ≡ found

@@ -92,7 +92,7 @@ mark_may sh scripts past w st R Q o (step.Format b) h = h
 mark_may sh scripts past w st R Q o step.Advance h = h
 mark_may sh scripts past w st R Q o (step.Extend x) h = inr h
 
-mark_own : (sh : Shape) (R Q : List Record) (o w : ℕ) (m : MarkStep) → own_of (mark_record sh Q o m ∷ R) w ≡ own_of R w
+pub mark_own : (sh : Shape) (R Q : List Record) (o w : ℕ) (m : MarkStep) → own_of (mark_record sh Q o m ∷ R) w ≡ own_of R w
 mark_own sh R Q o w (step.Format b) = refl
 mark_own sh R Q o w step.Advance = refl
 mark_own sh R Q o w (step.Extend x) = refl
@@ -103,7 +103,7 @@ mark_backed_of sh R Q o (step.Format b) (Some t) = refl
 mark_backed_of sh R Q o step.Advance (Some t) = refl
 mark_backed_of sh R Q o (step.Extend x) (Some t) = refl
 
-mark_backed : (sh : Shape) (R Q : List Record) (o w : ℕ) (m : MarkStep) → own_backed (mark_record sh Q o m ∷ R) w ≡ own_backed R w
+pub mark_backed : (sh : Shape) (R Q : List Record) (o w : ℕ) (m : MarkStep) → own_backed (mark_record sh Q o m ∷ R) w ≡ own_backed R w
 mark_backed sh R Q o w m = ap (backed_of (mark_record sh Q o m ∷ R)) (mark_own sh R Q o w m) ∙ mark_backed_of sh R Q o m (own_of R w)
 
 -- blocks that are left out of a search: none here
@@ -137,6 +137,7 @@ marks_moved meaning x name label text own o hint m a b at w f loan adds =
         whole = λ e. mark_backed sh R R o x.session m ∙ w.whole;
       };
       own = mark_own sh R R o x.session m ∙ at.own_is;
+      kept = tt;
     })
 
 -- ---- no block is found
@@ -170,7 +171,7 @@ most_extents sh x name label text own o count e w l =
     })
 
 -- a search that is refused
-looked_refused : {D A : Type 0} (meaning : Meaning D) (x : Span) (st : Statement) (y : Refusal) (own : Option ℕ) (a b : Held D) (u : A) → IsAt meaning x own a → own_backed x.ended x.session ≡ false → HasLooked {T = A} meaning a b (Ok u) → IsRefusedSo a.shape x st y
+pub looked_refused : {D A : Type 0} (meaning : Meaning D) (x : Span) (st : Statement) (y : Refusal) (own : Option ℕ) (a b : Held D) (u : A) → IsAt meaning x own a → own_backed x.ended x.session ≡ false → HasLooked {T = A} meaning a b (Ok u) → IsRefusedSo a.shape x st y
     → HasActed meaning x (Some st) a b (Ok (record { turned = turned.Over (outcome.Refused y) kept.Nothing; own = own }))
 looked_refused {D} {A} meaning x st y own a b u at whole h r = acted_told {A = A} meaning x (Some st) own a b u (record { turned = turned.Over (outcome.Refused y) kept.Nothing; own = own }) at h (so_refused a.shape x st y own r whole at.own_is)
 
@@ -232,6 +233,7 @@ inserted_turns sh x name label text next row txn own p tells o whole = record {
     closed = λ z. none_some _ _ (sym z);
   };
   own = o;
+  kept = tt;
 }
 
 row_inserted : {D : Type 0} (meaning : Meaning D) (x : Span) (name label text : List ℕ) (who : ℕ) (own : Option ℕ) (o at_block : ℕ) (hint : Option ℕ) (a b : Held D) (done : Done) → IsAt meaning x own a → IsBy x who → IsRowSize text → IsInserting a.shape x name label text o

@@ -39,7 +39,8 @@ use Rattle.session_core.proofs.RowTests.{change_of_rows, unbound_first, rows_fir
 use Rattle.session_core.specs.Starting.{IsFullAt}
 use Rattle.session_core.specs.Inserts.{tested_named}
 use Rattle.session_core.proofs.Changes.{so_refused}
-use Rattle.session_core.proofs.NewRows.{table_of}
+use Rattle.session_core.proofs.Located.{located_now}
+use Rattle.session_core.proofs.NewRows.{own_acts, table_of}
 
 row_so_far : (x : Span) (st : Statement) → IsRowChange st → IsIdle x → SoFar x (Some st)
 row_so_far x (asked.Update name target text) k h = h
@@ -70,6 +71,7 @@ place_found meaning x st w own a b p at k h l =
         whole = λ e. k.whole;
       };
       own = at.own_is;
+      kept = located_now a.shape x.ended own w.obj w.row p (own_acts a.shape x.ended x.session own at.stands.lawful.allowed at.own_is) (row_table a.shape a.shape x st (work_of w) at.stands.lawful.allowed k) l.located;
     })
 
 place_lacks : {D : Type 0} (meaning : Meaning D) (x : Span) (st : Statement) (w : ToldWork) (own : Option ℕ) (a b : Held D) → IsAt meaning x own a → IsChanging a.shape x st (work_of w) → HasLooked {T = Option Place} meaning a b (Ok None)

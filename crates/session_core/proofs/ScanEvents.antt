@@ -105,6 +105,7 @@ over_turns p sh x name own d f m w o = record {
     closed = λ z. none_some _ _ (sym z);
   };
   own = o;
+  kept = tt;
 }
 
 -- it goes on
@@ -117,6 +118,7 @@ on_turns p sh x name own s e f h w o = record {
     whole = λ z. w;
   };
   own = o;
+  kept = tt;
 }
 
 -- it is refused
@@ -124,6 +126,7 @@ stop_turns : (p : Option OpenScan) (sh : Shape) (x : Span) (name : List ℕ) (ow
 stop_turns p sh x name own y read r w o = record {
   turns = record { means = r.means; passes = r.passes; whole = w; closed = λ z. none_some _ _ (sym z) };
   own = o;
+  kept = tt;
 }
 
 -- ---- its first event

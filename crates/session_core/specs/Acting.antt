@@ -1,5 +1,5 @@
 -- What an event of a statement does to a true store, whatever it answers.
-use Rattle.std.specs.Prelude.{◌≡◌, ◌↔◌, ℕ, suc, ◌≤◌, ◌<◌, ◌^◌, false, List, length, Option, None, Result, IfOk, IfErr, IsErrOf}
+use Rattle.std.specs.Prelude.{◌≡◌, ◌↔◌, ℕ, ◌≤◌, false, List, Option, None, Result, IfOk, IfErr, IsErrOf}
 use Rattle.seg_words.specs.Types.{Shape, Rose}
 use Rattle.disk_model.specs.Crash.{Meaning}
 use Rattle.redo_model.specs.Records.{Record}
@@ -17,14 +17,14 @@ use Rattle.session_core.specs.declared.turned.Turned.{Turned}
 use Rattle.session_core.specs.declared.turned.Turned.TheVariants as turned
 use Rattle.session_core.specs.declared.turned.Acted.{Acted}
 use Rattle.session_core.specs.Doings.{doing_of}
+use Rattle.session_core.specs.Located.{KeepsTurned}
 
 -- ---- before the event
 
--- a true store with the records with which the span ends, one of which more could be numbered, and the session's transaction
+-- a true store with the records with which the span ends, and the session's transaction
 pub record IsAt {D : Type 0} (meaning : Meaning D) (x : Span) (own : Option ℕ) (s : Held D) : Type 0 where
   pub stands : IsTrue meaning x.ended s
   pub unspent : s.fault ≡ None
-  pub few : suc (length x.ended) < 2 ^ 64
   pub own_is : own_of x.ended x.session ≡ own
 
 -- a statement begins with this event, and nothing of the session's transaction is taken back
@@ -38,10 +38,11 @@ abbrev pub TurnsTo : Shape → Span → Option Statement → Turned → Type 0
 TurnsTo sh x st (turned.On d) = GoesOn sh x st (doing_of d)
 TurnsTo sh x st (turned.Over outcome k) = IsOverWith sh x st outcome k
 
--- the statement goes on or is over with these records, and the session has this transaction
+-- the statement goes on or is over with these records, the session has this transaction, and a place that the work has was located
 pub record Turns (sh : Shape) (x : Span) (st : Option Statement) (R : List Record) (a : Acted) : Type 0 where
   pub turns : TurnsTo sh (later x R) st a.turned
   pub own : own_of R x.session ≡ a.own
+  pub kept : KeepsTurned sh R a.own a.turned
 
 -- These records stand afterwards, also where the event failed: they are its statement's. What survived a crash goes on surviving
 -- it. The only faults are those of the disk and want of memory.

@@ -3,9 +3,9 @@ pub mod Doings
 pub mod Acting
 pub mod Starting
 pub mod Ends
+pub mod Acked
 pub mod Tests
 pub mod Making
-pub mod Stepping
 pub mod Inserts
 pub mod Owing
 pub mod Fixing
@@ -13,3 +13,9 @@ pub mod Changes
 pub mod Scanned
 pub mod Counted
 pub mod Repairing
+pub mod Located
+pub mod Leaving
+pub mod Updates
+pub mod Changed
+pub mod Dues
+pub mod Blocks

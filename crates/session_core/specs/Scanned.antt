@@ -30,6 +30,7 @@ use Rattle.session_core.specs.declared.turned.Turned.{Turned}
 use Rattle.session_core.specs.declared.turned.Turned.TheVariants as turned
 use Rattle.session_core.specs.declared.turned.Acted.{Acted}
 use Rattle.session_core.specs.Doings.{doing_of, no_scan}
+use Rattle.session_core.specs.Located.{KeepsTurned}
 
 -- ---- a session's place
 
@@ -60,10 +61,11 @@ abbrev pub TurnsAt : Option OpenScan → Shape → Span → Option Statement →
 TurnsAt p sh x st (turned.On d) = GoesOn sh x st (doing_at p d)
 TurnsAt p sh x st (turned.Over outcome k) = IsOverWith sh x st outcome k
 
--- the statement goes on or is over with these records, and the session has this transaction
+-- the statement goes on or is over with these records, the session has this transaction, and a place that the work has was located
 pub record TurnsWith (p : Option OpenScan) (sh : Shape) (x : Span) (st : Option Statement) (R : List Record) (a : Acted) : Type 0 where
   pub turns : TurnsAt p sh (later x R) st a.turned
   pub own : own_of R x.session ≡ a.own
+  pub kept : KeepsTurned sh R a.own a.turned
 
 -- What an event of a statement does to a true store, whatever it answers, with what is in the session's place afterwards.
 pub record HasActedAt {D : Type 0} (meaning : Meaning D) (x : Span) (st : Option Statement) (p : Option OpenScan) (old new : Held D) (result : Result Acted StoreFault) : Type 0 where

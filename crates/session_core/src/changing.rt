@@ -7,11 +7,16 @@ ghost use Rattle.history_model.specs.Spans.{Span};
 ghost use Rattle.history_laws.specs.Acting.{begun_row};
 ghost use Rattle.session_core.specs.Acting.{HasActed, HasCalled, IsAt, IsStarting};
 ghost use Rattle.session_core.specs.Changes.{HasPassedTests, IsAbout, IsChanging, IsNotChanged, IsUnboundAs, StartsAgain, TellsDelete, deleted, told_place};
+ghost use Rattle.session_core.specs.Blocks.{HasNoted};
+ghost use Rattle.session_core.specs.Leaving.{no_blocks};
+ghost use Rattle.session_core.specs.Located.{KeepsPlace};
 ghost use Rattle.session_core.specs.RowWorks.{starts_of, work_of};
 ghost use Rattle.history_model.specs.declared.limit.TheConstants.{MOST_STARTS};
 ghost use Rattle.session_core.specs.Inserts.{IsBy};
 
+use crate::changed::{Changed, note_made};
 use crate::inserting::test_named;
+use crate::leaving::home_blocks;
 use crate::naming::{find_named, is_log_full};
 use crate::session::{Doing, RowWork, Starts};
 use crate::turned::{Acted, Turned, over, refused};
@@ -111,7 +116,7 @@ fn start_again(
 }
 
 /// Why the row isn't changed: the statement starts again, or is refused.
-fn not_changed(
+pub fn not_changed(
     alloc: Global,
     fault: ChangeFault,
     work: &RowWork,
@@ -159,12 +164,15 @@ pub fn delete_row<D: Disk>(
     own: Option<TxnId>,
     work: &RowWork,
     place: &Place,
+    changed: &mut Changed,
 ) -> Result<Acted, StoreFault>
     requires unspent { store.old.fault ≡ None }
     ensures acted { (x : Span) (name : List ℕ) (target : TheTarget) → IsAt D.meaning x own store.old → IsBy x who → IsChanging store.old.shape x (asked.Delete name target) (work_of work.now) → work.now.place ≡ Some place.now → HasActed D.meaning x (Some (asked.Delete name target)) store.old store.new result }
+    ensures noted { (x : Span) (name : List ℕ) (target : TheTarget) → IsAt D.meaning x own store.old → IsBy x who → IsChanging store.old.shape x (asked.Delete name target) (work_of work.now) → work.now.place ≡ Some place.now → KeepsPlace store.old.shape x.ended own work.now → changed.old ≡ no_blocks → HasNoted D.meaning x.ended store.new changed.new }
     ensures called { HasCalled D.meaning store.old store.new result }
 {
     let made = delete(alloc, store, who, own, work.obj, place);
+    note_made(&made, home_blocks(place).in_table(work.obj), changed);
     told_delete(alloc, made, work, &own)
 }
 

@@ -4,31 +4,14 @@ ghost use Rattle.redo_model.specs.Model.{table_named};
 ghost use Rattle.script_text.specs.declared.statement.Statement.TheVariants as asked;
 ghost use Rattle.history_model.specs.Spans.{Span};
 ghost use Rattle.session_core.specs.Acting.{HasActed, HasCalled, IsAt, IsStarting};
-ghost use Rattle.session_core.specs.Counted.{usage_told};
 
 use crate::naming::find_named;
 use crate::turned::{Acted, over, refused};
 use disk_model::Disk;
-use history_text::{Outcome, Refusal, Usage};
+use history_text::{Outcome, Refusal};
 use seg_base::{Name, Obj, TxnId};
 use std::alloc::Global;
 use store_core::{Store, StoreFault};
-
-fn usage_told(counts: &space_usage::Usage) -> Usage
-    ensures { result ≡ usage_told counts.now }
-{
-    Usage {
-        unformatted: counts.unformatted,
-        fs1: counts.fs1,
-        fs2: counts.fs2,
-        fs3: counts.fs3,
-        fs4: counts.fs4,
-        full: counts.full,
-        low: counts.low,
-        high: counts.high,
-        extents: counts.extents,
-    }
-}
 
 /// Counts a table of which the name was copied.
 fn count_named<D: Disk>(
@@ -42,10 +25,7 @@ fn count_named<D: Disk>(
     ensures called { HasCalled D.meaning store.old store.new result }
 {
     match space_usage::usage(store, obj) {
-        Ok(counts) => {
-            let usage = usage_told(&counts);
-            Ok(over(Outcome::Usage { table, usage }, own))
-        }
+        Ok(usage) => Ok(over(Outcome::Usage { table, usage }, own)),
         Err(fault) => Err(fault),
     }
 }

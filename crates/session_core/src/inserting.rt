@@ -13,8 +13,11 @@ ghost use Rattle.store_core.specs.Store.{IsTrue};
 ghost use Rattle.free_search.specs.Answers.{IsRefusedBy, IsSoundFind, store_part};
 ghost use Rattle.free_search.specs.Looks.{sought};
 ghost use Rattle.session_core.specs.Acting.{HasActed, HasCalled, IsAt, IsStarting};
+ghost use Rattle.session_core.specs.Blocks.{HasNoted};
+ghost use Rattle.session_core.specs.Leaving.{no_blocks};
 ghost use Rattle.session_core.specs.Inserts.{IsBy, IsInserting, inserted, not_found, tested_named, told_insert};
 
+use crate::changed::{Changed, note_made};
 use crate::naming::{find_named, is_log_full};
 use crate::session::Doing;
 use crate::turned::{Acted, Turned, over, refused};
@@ -93,6 +96,7 @@ fn move_marks<D: Disk>(
 ) -> Result<Acted, StoreFault>
     requires unspent { store.old.fault ≡ None }
     ensures acted { (x : Span) (name label text : List ℕ) (hint : Option ℕ) → IsAt D.meaning x own.now store.old → IsInserting store.old.shape x name label text obj.now → find_of store.old.shape x.ended (sought obj.now (length text) (taker_of own.now) (None ∷ None ∷ [])) hint ≡ Some (found.Mark mark) → HasActed D.meaning x (Some (asked.Insert name label text)) store.old store.new result }
+    ensures noted { (x : Span) (name label text : List ℕ) (hint : Option ℕ) → IsAt D.meaning x own.now store.old → IsInserting store.old.shape x name label text obj.now → find_of store.old.shape x.ended (sought obj.now (length text) (taker_of own.now) (None ∷ None ∷ [])) hint ≡ Some (found.Mark mark) → HasNoted D.meaning x.ended store.new no_blocks }
     ensures called { HasCalled D.meaning store.old store.new result }
 {
     match step(store, *obj, mark) {
@@ -113,13 +117,16 @@ fn insert_row<D: Disk>(
     obj: &Obj,
     at: Dba,
     bytes: &[u8],
+    changed: &mut Changed,
 ) -> Result<Acted, StoreFault>
     requires unspent { store.old.fault ≡ None }
     requires size { length bytes.now ≤ LONGEST_ROW }
     ensures acted { (x : Span) (name label : List ℕ) (hint : Option ℕ) → IsAt D.meaning x own.now store.old → IsBy x who → IsRowSize bytes.now → IsInserting store.old.shape x name label bytes.now obj.now → find_of store.old.shape x.ended (sought obj.now (length bytes.now) (taker_of own.now) (None ∷ None ∷ [])) hint ≡ Some (found.Block at) → HasActed D.meaning x (Some (asked.Insert name label bytes.now)) store.old store.new result }
+    ensures noted { (x : Span) (name label : List ℕ) (hint : Option ℕ) → IsAt D.meaning x own.now store.old → IsBy x who → IsRowSize bytes.now → IsInserting store.old.shape x name label bytes.now obj.now → find_of store.old.shape x.ended (sought obj.now (length bytes.now) (taker_of own.now) (None ∷ None ∷ [])) hint ≡ Some (found.Block at) → changed.old ≡ no_blocks → HasNoted D.meaning x.ended store.new changed.new }
     ensures called { HasCalled D.meaning store.old store.new result }
 {
     let made = insert(alloc, store, who, *own, *obj, at, bytes);
+    note_made(&made, Changed::one(at).in_table(*obj), changed);
     told_insert(made, obj, own)
 }
 
@@ -152,14 +159,16 @@ fn act_on_found<D: Disk>(
     obj: &Obj,
     bytes: &[u8],
     found: Found,
+    changed: &mut Changed,
 ) -> Result<Acted, StoreFault>
     requires unspent { store.old.fault ≡ None }
     requires size { length bytes.now ≤ LONGEST_ROW }
     ensures acted { (x : Span) (name label : List ℕ) (hint : Option ℕ) → IsAt D.meaning x own.now store.old → IsBy x who → IsRowSize bytes.now → IsInserting store.old.shape x name label bytes.now obj.now → find_of store.old.shape x.ended (sought obj.now (length bytes.now) (taker_of own.now) (None ∷ None ∷ [])) hint ≡ Some found → HasActed D.meaning x (Some (asked.Insert name label bytes.now)) store.old store.new result }
+    ensures noted { (x : Span) (name label : List ℕ) (hint : Option ℕ) → IsAt D.meaning x own.now store.old → IsBy x who → IsRowSize bytes.now → IsInserting store.old.shape x name label bytes.now obj.now → find_of store.old.shape x.ended (sought obj.now (length bytes.now) (taker_of own.now) (None ∷ None ∷ [])) hint ≡ Some found → changed.old ≡ no_blocks → HasNoted D.meaning x.ended store.new changed.new }
     ensures called { HasCalled D.meaning store.old store.new result }
 {
     match found {
-        Found::Block(at) => insert_row(alloc, store, who, own, obj, at, bytes),
+        Found::Block(at) => insert_row(alloc, store, who, own, obj, at, bytes, changed),
         Found::Mark(mark) => move_marks(store, own, obj, mark),
     }
 }
@@ -174,14 +183,16 @@ pub fn go_on_inserting<D: Disk>(
     obj: Obj,
     bytes: &[u8],
     hint: Option<u32>,
+    changed: &mut Changed,
 ) -> Result<Acted, StoreFault>
     requires unspent { store.old.fault ≡ None }
     requires size { length bytes.now ≤ LONGEST_ROW }
     ensures acted { (x : Span) (name label : List ℕ) → IsAt D.meaning x own store.old → IsBy x who → IsRowSize bytes.now → IsInserting store.old.shape x name label bytes.now obj → HasActed D.meaning x (Some (asked.Insert name label bytes.now)) store.old store.new result }
+    ensures noted { (x : Span) (name label : List ℕ) → IsAt D.meaning x own store.old → IsBy x who → IsRowSize bytes.now → IsInserting store.old.shape x name label bytes.now obj → changed.old ≡ no_blocks → HasNoted D.meaning x.ended store.new changed.new }
     ensures called { HasCalled D.meaning store.old store.new result }
 {
     match find_block(alloc, store, &own, &obj, bytes, hint) {
-        Ok(found) => act_on_found(alloc, store, who, &own, &obj, bytes, found),
+        Ok(found) => act_on_found(alloc, store, who, &own, &obj, bytes, found, changed),
         Err(fault) => not_found(fault, own),
     }
 }
@@ -210,10 +221,12 @@ pub fn start_insert<D: Disk>(
     name: &Name,
     bytes: &[u8],
     hint: Option<u32>,
+    changed: &mut Changed,
 ) -> Result<Acted, StoreFault>
     requires unspent { store.old.fault ≡ None }
     requires size { length bytes.now ≤ LONGEST_ROW }
     ensures acted { (x : Span) (label : List ℕ) → IsAt D.meaning x own store.old → IsStarting x → IsBy x who → IsRowSize bytes.now → HasActed D.meaning x (Some (asked.Insert name.now label bytes.now)) store.old store.new result }
+    ensures noted { (x : Span) (label : List ℕ) → IsAt D.meaning x own store.old → IsStarting x → IsBy x who → IsRowSize bytes.now → changed.old ≡ no_blocks → HasNoted D.meaning x.ended store.new changed.new }
     ensures called { HasCalled D.meaning store.old store.new result }
 {
     let named = match find_named(alloc, store, name) {
@@ -222,7 +235,7 @@ pub fn start_insert<D: Disk>(
     };
     let full = is_log_full(store);
     match test_named(named.obj, full) {
-        Ok(obj) => go_on_inserting(alloc, store, who, own, obj, bytes, hint),
+        Ok(obj) => go_on_inserting(alloc, store, who, own, obj, bytes, hint, changed),
         Err(refusal) => Ok(refused(refusal, own)),
     }
 }

@@ -1,12 +1,14 @@
-//! The world: the sessions of a run over a store, one event a step.
+//! What each statement does to a store, event by event, and what a session is at between two of them.
 #![tactic(auto)]
 
+mod changed;
 mod changing;
 mod counting;
+mod dues;
 mod ending;
-mod event;
 mod fixing;
 mod inserting;
+mod leaving;
 mod naming;
 mod owed;
 mod repairing;
@@ -16,18 +18,21 @@ mod settling;
 mod tables;
 mod testing;
 mod turned;
+mod updating;
 
+pub use changed::Changed;
 pub use changing::{delete_row, locate_row, start_on_row};
 pub use counting::tell_usage;
+pub use dues::Dues;
 pub use ending::{commit_own, roll_back, take_back};
-pub use event::{begin, finish, step_session};
 pub use fixing::fix;
 pub use inserting::{go_on_inserting, start_insert};
 pub use naming::{Named, find_named, is_log_full};
 pub use owed::{Owed, OwedBlock};
 pub use repairing::{Repaired, repair_block};
 pub use scanning::{go_on_scanning, start_scan};
-pub use session::{Doing, RowWork, Session, Starts, Turn};
+pub use session::{Doing, RowWork, Starts};
 pub use settling::{settle_block, settle_owed};
 pub use tables::{make_table, set_movement};
 pub use turned::{Acted, Turned, over, refused};
+pub use updating::update_row;

@@ -2,7 +2,7 @@
 ghost use Rattle.std.specs.Prelude.{◌≡◌, [], OnOk, OnErr};
 ghost use Rattle.std.specs.BTreeMap.{insert_entry};
 ghost use Rattle.std.specs.Ordering.{nat_cmp};
-ghost use Rattle.session_core.specs.Owing.{first_owed, rest_owed, is_none_owed};
+ghost use Rattle.session_core.specs.Owing.{AreKept, first_owed, is_none_owed, rest_owed, table_in, with_all};
 
 use seg_base::{Dba, NoMemory, Obj};
 use std::alloc::Global;
@@ -61,6 +61,13 @@ impl Owed {
         }
     }
 
+    /// The table with which a block is owed.
+    pub fn table_of(&self, dba: Dba) -> Option<Obj>
+        ensures { result ≡ table_in self.now dba }
+    {
+        self.blocks.get(&dba.0).copied()
+    }
+
     /// The least block is no longer owed.
     pub fn drop_next(&mut self)
         ensures { self.new ≡ rest_owed self.old }
@@ -73,4 +80,19 @@ impl Owed {
     {
         self.blocks.is_empty()
     }
+}
+
+/// What is in the first goes over to the other one, block by block. Without memory each block stays in one of them.
+pub fn move_all(from: &mut Owed, to: &mut Owed) -> Result<(), NoMemory>
+    ensures ok { OnOk result (to.new ≡ with_all to.old from.old) }
+    ensures none_left { OnOk result (from.new ≡ []) }
+    ensures err { OnErr result (AreKept to.old from.old to.new from.new) }
+{
+    while let Some(block) = from.next() {
+        match to.push(block.obj, block.dba) {
+            Ok(()) => from.drop_next(),
+            Err(fault) => return Err(fault),
+        }
+    }
+    Ok(())
 }

@@ -1,7 +1,7 @@
-// A session between its events.
+// What a session is at between its events.
 use history_model::MOST_STARTS;
 use row_change::Place;
-use seg_base::{Lsn, Obj, RowNo, Scn, TxnId};
+use seg_base::{Obj, RowNo, Scn, TxnId};
 
 /// What a session is at: it waits with its next statement, or with what is under way.
 #[derive(Clone, Copy, Debug, PartialEq, Eq, Drop)]
@@ -15,24 +15,6 @@ pub enum Doing {
     OnRow(RowWork),
     /// A scan reads its blocks, one an event. It stands in its session's place of the open scans.
     Scanning,
-}
-
-/// A session: how many of its statements have their entry, with how many records the one under way began, what it is at, and
-/// its active transaction.
-#[derive(Debug, Drop)]
-pub struct Session {
-    pub told: usize,
-    pub begins: Lsn,
-    pub doing: Doing,
-    pub own: Option<TxnId>,
-}
-
-/// Whether an event was made.
-#[derive(Clone, Copy, Debug, PartialEq, Eq, Drop)]
-pub enum Turn {
-    Made,
-    /// The session has ended, and nothing was done.
-    Ended,
 }
 
 /// The numbers of commits that ended the starts of an update or a delete so far: the first `count` of them, in order.

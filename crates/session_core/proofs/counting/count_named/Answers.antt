@@ -1,6 +1,4 @@
-use Rattle.std.proofs.Common.{◌∙◌, ap}
-use Rattle.history_text.specs.declared.outcome.Usage.{Usage}
-use Rattle.session_core.specs.Counted.{over_usage, told_over}
+use Rattle.session_core.specs.Counted.{told_over}
 use Rattle.session_core.proofs.Calls.{acted_as, acted_told, acted_looked, called_look, called_unlooked}
 use Rattle.session_core.proofs.ScanEvents.{there_at}
 use Rattle.session_core.proofs.Usages.{usage_turns}
@@ -10,12 +8,12 @@ pub returns-in-Ok-clause-acted : goal.returns-in-Ok-clause-acted
 returns-in-Ok-clause-acted g c = λ x at st t.
     let M = g.D.Disk.meaning in
     let a = c.args.store.now in
-    acted_as M x _ a c.usage.new.store c.over.result (over_usage c.args.table c.args.own c.in-Ok.counts) (c.over.ensures ∙ ap (λ (u : Usage). told_over c.args.table c.args.own u) c.usage_told-usage.ensures)
-    (acted_told M x _ c.args.own a c.usage.new.store c.in-Ok.counts (over_usage c.args.table c.args.own c.in-Ok.counts) at c.in-Ok.ensures.looked
-    (usage_turns a.shape x c.args.table c.args.obj c.args.own c.in-Ok.counts at.stands.lawful.allowed st t at.own_is (c.in-Ok.ensures.says x.ended at.stands (there_at M x c.args.table c.args.own c.args.obj a at st t))))
+    acted_as M x _ a c.usage.new.store c.over.result (told_over c.args.table c.args.own c.in-Ok.usage) c.over.ensures
+    (acted_told M x _ c.args.own a c.usage.new.store c.in-Ok.usage (told_over c.args.table c.args.own c.in-Ok.usage) at c.in-Ok.ensures.looked
+    (usage_turns a.shape x c.args.table c.args.obj c.args.own c.in-Ok.usage at.stands.lawful.allowed st t at.own_is (c.in-Ok.ensures.says x.ended at.stands (there_at M x c.args.table c.args.own c.args.obj a at st t))))
 
 pub returns-in-Ok-clause-called : goal.returns-in-Ok-clause-called
-returns-in-Ok-clause-called g c = called_look g.D.Disk.meaning c.args.store.now c.usage.new.store c.in-Ok.counts _ c.requires.unspent c.in-Ok.ensures.looked
+returns-in-Ok-clause-called g c = called_look g.D.Disk.meaning c.args.store.now c.usage.new.store c.in-Ok.usage _ c.requires.unspent c.in-Ok.ensures.looked
 
 pub returns-in-Err-clause-acted : goal.returns-in-Err-clause-acted
 returns-in-Err-clause-acted g c = λ x at st t.

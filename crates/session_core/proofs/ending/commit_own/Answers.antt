@@ -1,3 +1,6 @@
+use Rattle.std.proofs.Common.{sym, subst}
+use Rattle.session_core.specs.declared.turned.Acted.{Acted}
+use Rattle.session_core.specs.Acked.{AcksTurned}
 use Rattle.std.specs.Prelude.{Some, None}
 use Rattle.session_core.proofs.Calls.{called_same, acted_as, at_own}
 use Rattle.session_core.proofs.Ends.{nothing_committed}
@@ -5,6 +8,12 @@ use Rattle.session_core.proofs.ending.commit_own.Goals as goal
 
 pub returns-in-Some-clause-acted : goal.returns-in-Some-clause-acted
 returns-in-Some-clause-acted g c = λ x at st. c.commit_txn.ensures.acted x (at_own g.D.Disk.meaning x c.args.own (Some c.in-Some.txn) c.args.store.now c.in-Some.is at) st
+
+pub returns-in-Some-clause-acked : goal.returns-in-Some-clause-acked
+returns-in-Some-clause-acked g c = λ x at st. c.commit_txn.ensures.acked x (at_own g.D.Disk.meaning x c.args.own (Some c.in-Some.txn) c.args.store.now c.in-Some.is at) st
+
+pub returns-in-None-clause-acked : goal.returns-in-None-clause-acked
+returns-in-None-clause-acked g c = λ x at st. subst (λ (a : Acted). AcksTurned c.args.store.now a.turned) (sym c.over.ensures) tt
 
 pub returns-in-None-clause-acted : goal.returns-in-None-clause-acted
 returns-in-None-clause-acted g c = λ x at st.

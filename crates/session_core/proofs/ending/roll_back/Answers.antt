@@ -1,6 +1,7 @@
 use Rattle.std.specs.Prelude.{Some, None}
 use Rattle.session_core.proofs.Calls.{called_same, acted_as, at_own}
 use Rattle.session_core.proofs.Ends.{nothing_rolled, rolls_back, rolls_own, back_begins}
+use Rattle.session_core.proofs.Blocks.{noted_as, noted_same}
 use Rattle.session_core.proofs.ending.roll_back.Goals as goal
 
 pub returns-in-Some-clause-acted : goal.returns-in-Some-clause-acted
@@ -15,3 +16,9 @@ returns-in-None-clause-acted g c = λ x st k at h.
 
 pub returns-in-None-clause-called : goal.returns-in-None-clause-called
 returns-in-None-clause-called g c = called_same g.D.Disk.meaning c.args.store.now _ c.requires.unspent
+
+pub returns-in-Some-clause-noted : goal.returns-in-Some-clause-noted
+returns-in-Some-clause-noted g c = λ x at n. c.take_back.ensures.noted x (at_own g.D.Disk.meaning x c.args.own (Some c.in-Some.txn) c.args.store.now c.in-Some.is at) n
+
+pub returns-in-None-clause-noted : goal.returns-in-None-clause-noted
+returns-in-None-clause-noted g c = λ x at n. noted_as g.D.Disk.meaning x.ended c.args.store.now c.args.changed.now _ n (noted_same g.D.Disk.meaning x.ended c.args.store.now at.stands)

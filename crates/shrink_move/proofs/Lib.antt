@@ -1,0 +1,11 @@
+pub mod Knowing
+pub mod Placing
+pub mod Opening
+pub mod Coming
+pub mod Takers
+pub mod Lasts
+pub mod Nexts
+pub mod Before
+pub mod OneLaw
+pub mod MoveLaw
+pub mod ThereLaw

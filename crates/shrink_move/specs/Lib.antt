@@ -1,0 +1,10 @@
+pub mod Known
+pub mod Walks
+pub mod Asked
+pub mod Nexts
+pub mod Starts
+pub mod Nexting
+pub mod Ones
+pub mod Moves
+pub mod MoveLaws
+pub mod There

@@ -1,0 +1,10 @@
+pub mod LabelRows
+pub mod Unmarked
+pub mod Scripts
+pub mod Sizes
+pub mod Starting
+pub mod Turns
+pub mod Running
+pub mod Steps
+pub mod Paying
+pub mod Shrinking

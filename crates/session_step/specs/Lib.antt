@@ -1,0 +1,6 @@
+pub mod Bindings
+pub mod Stages
+pub mod Turning
+pub mod Telling
+pub mod Stepping
+pub mod Laws

@@ -1,0 +1,78 @@
+-- What an event of a statement finds, and what it does, with what it leaves in its session's place.
+use Rattle.std.specs.Prelude.{◌≡◌, ℕ, false, List, Option, Some, None, Result, IfOk}
+use Rattle.disk_model.specs.Crash.{Meaning}
+use Rattle.redo_model.specs.Model.{Extends}
+use Rattle.session_laws.specs.Sessions.{own_backed}
+use Rattle.script_text.specs.declared.statement.Statement.{Statement}
+use Rattle.script_text.specs.declared.statement.Statement.TheVariants as asked
+use Rattle.history_model.specs.History.{bound}
+use Rattle.history_model.specs.Spans.{Span}
+use Rattle.history_model.specs.Causes.{IsShrunkBy}
+use Rattle.session_model.specs.Doings.{takes_back}
+use Rattle.session_model.specs.Worlds.{IsReady}
+use Rattle.store_core.specs.Store.{Held}
+use Rattle.store_core.specs.declared.fault.StoreFault.{StoreFault}
+use Rattle.scan_table.specs.declared.scan.OpenScan.{OpenScan}
+use Rattle.session_core.specs.declared.session.Doing.{Doing as Told}
+use Rattle.session_core.specs.declared.session.Doing.TheVariants as told
+use Rattle.session_core.specs.declared.session.RowWork.{RowWork as ToldWork}
+use Rattle.session_core.specs.declared.turned.Acted.{Acted}
+use Rattle.session_core.specs.Acked.{AcksTurned}
+use Rattle.session_core.specs.Acting.{IsAt}
+use Rattle.session_core.specs.Inserts.{IsBy}
+use Rattle.session_core.specs.Located.{KeepsDoing}
+use Rattle.session_core.specs.Scanned.{IsShaped, IsKept, HasActedAt, doing_at}
+use Rattle.session_step.specs.Bindings.{row_of}
+use Rattle.session_step.specs.Stages.{IsHeld}
+
+-- a statement of which the events are built
+abbrev pub IsBuilt : Statement → Type 0
+IsBuilt (asked.Shrink name compact) = ⊥
+IsBuilt (asked.Repair name) = ⊥
+IsBuilt asked.Checkpoint = ⊥
+IsBuilt st = Unit {0}
+
+-- ---- before its event
+
+-- as it starts the labels are those of the history before it, and no other session shrinks its table
+pub record IsFresh (x : Span) (labels : List (List ℕ × ℕ)) : Type 0 where
+  pub labelled : (l : List ℕ) → row_of labels l ≡ bound x.scripts x.past l
+  pub unshrunk : (name : List ℕ) (v : ℕ) → IsShrunkBy x name v → ⊥
+
+-- Statement st of session who starts with this event, or is at this; nothing of the session's transaction is taken back but
+-- while it takes it back.
+pub record IsTurnOf {D : Type 0} (meaning : Meaning D) (x : Span) (st : Option Statement) (who : ℕ) (own : Option ℕ) (labels : List (List ℕ × ℕ)) (p : Option OpenScan) (d : Told) (s : Held D) : Type 0 where
+  pub at : IsAt meaning x own s
+  pub by : IsBy x who
+  pub extends : Extends x.begun x.ended
+  pub ready : IsReady s.shape x st (doing_at p d)
+  pub whole : takes_back (doing_at p d) ≡ false → own_backed x.ended x.session ≡ false
+  pub fresh : d ≡ told.Waiting → IsFresh x labels
+  pub shaped : IsShaped s.shape p
+  pub held : IsHeld p d
+  pub located : KeepsDoing s.shape x.ended own d
+
+-- ---- what it is at
+
+-- the table of an insert that is under way
+abbrev pub inserting_in : Told → Option ℕ
+inserting_in (told.Inserting o) = Some o
+inserting_in d = None
+
+-- the work of an update or a delete that is under way
+abbrev pub work_in : Told → Option ToldWork
+work_in (told.OnRow w) = Some w
+work_in d = None
+
+-- the transaction that is taken back
+abbrev pub backing_in : Told → Option ℕ
+backing_in (told.TakingBack t) = Some t
+backing_in d = None
+
+-- ---- after it
+
+-- a scan is open exactly where the statement goes on with it; where a commit is told, no record waits
+pub record HasTurned {D : Type 0} (meaning : Meaning D) (x : Span) (st : Option Statement) (p : Option OpenScan) (old new : Held D) (result : Result Acted StoreFault) : Type 0 where
+  pub acted : HasActedAt meaning x st p old new result
+  pub kept : IfOk result (λ a. IsKept p a.turned)
+  pub acked : IfOk result (λ a. AcksTurned new a.turned)

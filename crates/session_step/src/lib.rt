@@ -1,0 +1,17 @@
+//! One event of one session of a run over a store: an owed block is settled, or the next statement starts or goes on, and its
+//! entry is told where it is over.
+#![tactic(auto)]
+
+mod acting;
+mod binding;
+mod labels;
+mod laws;
+mod rows;
+mod session;
+mod stepping;
+mod telling;
+
+pub use labels::Labels;
+pub use laws::none_is_shrinking;
+pub use session::{Session, Turn};
+pub use stepping::step_session;

@@ -1,0 +1,99 @@
+-- A run begins.
+use Rattle.std.proofs.Common.{◌≡◌, ℕ, List, [], length, Option, None, refl, sym, ◌∙◌, ap, subst, le_refl, inl}
+use Rattle.std.specs.Prelude.{Result, Ok, Err}
+use Rattle.std.proofs.Math.Path.{fun_ext}
+use Rattle.std.specs.Io.KnownBytes.{Appends}
+use Rattle.text_port.proofs.Pieces.{appends_none}
+use Rattle.seg_words.specs.Types.{Shape}
+use Rattle.disk_model.specs.Crash.{Meaning}
+use Rattle.redo_model.specs.Records.{Record}
+use Rattle.session_laws.specs.Sessions.{own_of}
+use Rattle.script_text.specs.declared.statement.Statement.{Statement}
+use Rattle.history_model.specs.declared.history.HistoryItem.{HistoryItem}
+use Rattle.history_model.specs.History.{IsSession, AreInTime}
+use Rattle.session_model.specs.Sessions.{Session}
+use Rattle.session_model.specs.Worlds.{IsWorld}
+use Rattle.session_model.specs.Laws.{NoneActive, fresh}
+use Rattle.session_model.proofs.Events.{worlds_begin}
+use Rattle.store_core.specs.Store.{Held, IsTrue}
+use Rattle.store_core.specs.Survives.{Survives}
+use Rattle.store_core.specs.declared.fault.StoreFault.TheVariants.{NoMemory}
+use Rattle.scan_table.specs.Places.{place}
+use Rattle.scan_table.specs.declared.scan.OpenScan.{OpenScan}
+use Rattle.session_core.specs.Scanned.{IsShaped}
+use Rattle.session_core.specs.Located.{KeepsDoing}
+use Rattle.session_step.specs.declared.session.Session.{Session as Told}
+use Rattle.session_step.specs.Bindings.{row_of}
+use Rattle.session_step.specs.Stages.{session_at, IsHeld}
+use Rattle.session_world.specs.declared.events.Run.{Run}
+use Rattle.session_world.specs.declared.fault.RunFault.{RunFault}
+use Rattle.session_world.specs.declared.fault.RunFault.TheVariants as stops
+use Rattle.session_world.specs.Whole.{text_of, needed_by, HasRunAll}
+use Rattle.session_world.specs.Seats.{unstarted, told_at, seen_in}
+use Rattle.session_world.specs.Between.{IsFresh, IsRunAt, IsSoFar, IsIdle}
+use Rattle.session_world.specs.Rounds.{HasComeToEnd}
+use Rattle.session_world.proofs.Taken.{printed_took}
+
+seen_fresh : (count : ℕ) (run : Run) → IsFresh count run → (w : ℕ) → seen_in run.seats.items run.scans w ≡ fresh w
+seen_fresh count run h w = ap (λ (z : Told). session_at (place w run.scans) z) (h.idle w) ∙ ap (λ (p : Option OpenScan). session_at p unstarted) (h.closed w)
+
+none_bound : (labels : List (List ℕ × ℕ)) → labels ≡ [] → (l : List ℕ) → row_of labels l ≡ None
+none_bound labels e l = ap (λ (z : List (List ℕ × ℕ)). row_of z l) e
+
+begun_world : (sh : Shape) (scripts : List (List Statement)) (R0 : List Record) (count : ℕ) (run : Run) → IsFresh count run → IsWorld sh scripts R0 R0 [] fresh (λ l. None) → IsWorld sh scripts R0 R0 run.history (seen_in run.seats.items run.scans) (row_of run.labels)
+begun_world sh scripts R0 count run h w =
+    let seen : seen_in run.seats.items run.scans ≡ fresh = fun_ext (seen_fresh count run h) in
+    let bound : row_of run.labels ≡ (λ l. None) = fun_ext (none_bound run.labels h.unlabelled) in
+    subst (λ (T : List HistoryItem). IsWorld sh scripts R0 R0 T (seen_in run.seats.items run.scans) (row_of run.labels)) (sym h.untold)
+    (subst (λ (f : ℕ → Session). IsWorld sh scripts R0 R0 [] f (row_of run.labels)) (sym seen) (subst (λ (f : List ℕ → Option ℕ). IsWorld sh scripts R0 R0 [] fresh f) (sym bound) w))
+
+begun_at : {D : Type 0} (meaning : Meaning D) (scripts : List (List Statement)) (R0 : List Record) (s : Held D) (run : Run) → IsTrue meaning R0 s → NoneActive R0 → IsFresh (length scripts) run → IsRunAt meaning scripts R0 R0 s run
+begun_at meaning scripts R0 s run t none h = record {
+  stands = t;
+  seats = h.seats;
+  world = begun_world s.shape scripts R0 (length scripts) run h (worlds_begin s.shape scripts R0 t.lawful none);
+  own = λ w session. none w ∙ ap (λ (z : Told). z.own) (sym (h.idle w));
+  shaped = λ w session. subst (λ (p : Option OpenScan). IsShaped s.shape p) (sym (h.closed w)) tt;
+  held = λ w session. subst (λ (z : Told). IsHeld (place w run.scans) z.doing) (sym (h.idle w)) (h.closed w);
+  located = λ w session. subst (λ (z : Told). KeepsDoing s.shape R0 (own_of R0 w) z.doing) (sym (h.idle w)) tt;
+  in_time = subst (λ (T : List HistoryItem). AreInTime (meaning.clock s.disk) T) (sym h.untold) tt;
+}
+
+pub run_begins : {D : Type 0} (meaning : Meaning D) (scripts : List (List Statement)) (R0 : List Record) (s : Held D) (before : Option (List ℕ)) (run : Run) → IsTrue meaning R0 s → NoneActive R0 → IsFresh (length scripts) run → IsSoFar meaning scripts R0 R0 s s before before run
+run_begins meaning scripts R0 s before run t none h = record {
+  at = begun_at meaning scripts R0 s run t none h;
+  shape = refl;
+  took = subst (λ (T : List HistoryItem). Appends before before (text_of T)) (sym h.untold) (appends_none before);
+  survives = λ since found k. subst (λ (T : List HistoryItem). Survives meaning since (needed_by found T) R0 s) (sym h.untold) k;
+  time = le_refl (meaning.clock s.disk);
+}
+
+-- a run that didn't begin, for want of memory
+pub never_begun : {D : Type 0} (meaning : Meaning D) (scripts : List (List Statement)) (R0 : List Record) (s : Held D) (before : Option (List ℕ)) → IsTrue meaning R0 s → NoneActive R0 → HasRunAll meaning scripts R0 s s before before (Err (stops.Store NoMemory))
+never_begun meaning scripts R0 s before t none = record {
+  records = R0;
+  history = [];
+  stands = t;
+  legal = (worlds_begin s.shape scripts R0 t.lawful none).legal;
+  in_time = tt;
+  took = printed_took (Err (stops.Store NoMemory)) before before [] (inl (appends_none before));
+  printed = inl (appends_none before);
+  over = tt;
+  stable = tt;
+  survives = λ since found k. k;
+  time = le_refl (meaning.clock s.disk);
+  sound = tt;
+}
+
+module _ {D : Type 0} (meaning : Meaning D) (ss sessions : List (List Statement)) (same : ss ≡ sessions) (R0 : List Record) (s mid new : Held D) (before after : Option (List ℕ)) (run last : Run) (t : IsTrue meaning R0 s) (none : NoneActive R0) (fresh : IsFresh (length sessions) run) where
+  so_far : IsSoFar meaning ss R0 R0 s s before before run
+  so_far = run_begins meaning ss R0 s before run t none (subst (λ (n : ℕ). IsFresh n run) (ap (λ (z : List (List Statement)). length z) (sym same)) fresh)
+
+  -- a run that came to its end, and was closed
+  pub run_whole : (r : Result (Unit {0}) RunFault) → ((Q0 Q : List Record) (first : Held D) (b : Option (List ℕ)) → IsSoFar meaning ss Q0 Q first s b before run → HasComeToEnd meaning ss Q0 first mid b after last (Ok tt))
+      → ((scripts : List (List Statement)) (Q0 : List Record) (first : Held D) (b a : Option (List ℕ)) (u : Run) → IsIdle meaning scripts Q0 first mid b a u → HasRunAll meaning scripts Q0 first new b a r) → HasRunAll meaning sessions R0 s new before after r
+  run_whole r comes closed = subst (λ (z : List (List Statement)). HasRunAll meaning z R0 s new before after r) same (closed ss R0 s before after last (comes R0 R0 s before so_far))
+
+  -- or that stopped before
+  pub run_part : (f : RunFault) → ((Q0 Q : List Record) (first : Held D) (b : Option (List ℕ)) → IsSoFar meaning ss Q0 Q first s b before run → HasComeToEnd meaning ss Q0 first new b after last (Err f)) → HasRunAll meaning sessions R0 s new before after (Err f)
+  run_part f comes = subst (λ (z : List (List Statement)). HasRunAll meaning z R0 s new before after (Err f)) same (comes R0 R0 s before so_far)

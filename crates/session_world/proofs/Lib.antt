@@ -1,0 +1,10 @@
+pub mod Taken
+pub mod Needed
+pub mod Items
+pub mod Serving
+pub mod Runnable
+pub mod Seating
+pub mod Beginning
+pub mod Turning
+pub mod Circling
+pub mod Closing

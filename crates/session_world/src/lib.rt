@@ -1,0 +1,15 @@
+//! The sessions of a run over a store: any of them makes an event, whose entry's lines are handed out as it ends, and a whole
+//! run of a script.
+#![tactic(auto)]
+
+mod events;
+mod fault;
+mod lines;
+mod rounds;
+mod running;
+mod seats;
+
+pub use events::{Run, step_run};
+pub use fault::RunFault;
+pub use running::run_scripts;
+pub use seats::Seat;

@@ -3,17 +3,14 @@ use Rattle.std.specs.Prelude.{ℕ, List, ◌++◌, codes, decimal}
 use Rattle.disk_model.specs.declared.disk.File.{File}
 use Rattle.disk_model.specs.declared.disk.File.TheVariants.{Data, Log}
 use Rattle.text_port.specs.declared.whole.ReadEnd.{ReadEnd}
-use Rattle.assm.specs.declared.fault.RunFault.{RunFault}
 use Rattle.store_files.specs.declared.fault.OpenFault.{OpenFault}
-use Rattle.assm.specs.declared.script.ScriptFault.{ScriptFault}
-use Rattle.assm.specs.declared.script.Why.{Why}
-use Rattle.assm.specs.declared.script.Why.TheVariants.{NotAStatement}
+use Rattle.script_text.specs.declared.why.ScriptFault.{ScriptFault}
+use Rattle.script_text.specs.Whys.{why_text}
 use Rattle.assm.specs.declared.status.Status.{Status}
 use Rattle.assm.specs.declared.status.Status.TheVariants.{Done, BadWords, BadScript, DeviceFault, NoMemory, BadFile, NotFormatted, ReadFault, WriteFault, ScriptTooLong, AlreadyFormatted}
 use Rattle.text_port.specs.declared.whole.ReadEnd.TheVariants as read
-use Rattle.assm.specs.declared.fault.RunFault.TheVariants as run
 use Rattle.store_files.specs.declared.fault.OpenFault.TheVariants as opening
-use Rattle.assm.specs.declared.script.ScriptFault.TheVariants as script
+use Rattle.script_text.specs.declared.why.ScriptFault.TheVariants as script
 
 abbrev pub number_of : Status → ℕ
 number_of Done = 0
@@ -27,11 +24,6 @@ number_of ReadFault = 7
 number_of WriteFault = 8
 number_of ScriptTooLong = 9
 number_of AlreadyFormatted = 10
-
-abbrev pub status_of_run : RunFault → Status
-status_of_run run.NoMemory = NoMemory
-status_of_run run.DeviceFault = DeviceFault
-status_of_run run.WriteFault = WriteFault
 
 abbrev pub status_of_read : ReadEnd → Status
 status_of_read read.ReadFault = ReadFault
@@ -50,9 +42,6 @@ status_of_open opening.AlreadyFormatted = AlreadyFormatted
 status_of_open opening.NoMemory = NoMemory
 
 -- ---- how a status is printed: its name, then its fields, each after a space
-abbrev pub why_text : Why → List ℕ
-why_text NotAStatement = codes "NotAStatement"
-
 abbrev pub file_text : File → List ℕ
 file_text Data = codes "data"
 file_text Log = codes "log"

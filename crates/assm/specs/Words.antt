@@ -3,8 +3,7 @@ use Rattle.seg_words.specs.Types.{MOST_BLOCKS, MOST_EXTENT_BLOCKS, MOST_UNDO_BLO
 use Rattle.std.specs.Prelude.{◌≡◌, ℕ, true, if◌then◌else◌, List, [], ◌∷◌, Option, Some, None, codes, bytes_eq}
 use Rattle.assm.specs.declared.words.Command.{Command}
 use Rattle.assm.specs.declared.words.Command.TheVariants.{Format, Run}
-use Rattle.assm.specs.Bytes.{number_of}
-use Rattle.assm.specs.Script.{◌>>=◌}
+use Rattle.script_text.specs.Pieces.{number_of, ◌>>=◌}
 
 -- the shape that three numbers state, where it is within the limits
 abbrev pub shape_in : List ℕ → List ℕ → List ℕ → Option Shape

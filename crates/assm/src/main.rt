@@ -1,32 +1,13 @@
-//! The program: runs a script of sessions over a store. In this stage it is one session, and the store is its redo list,
-//! kept in the log file.
+//! The program: makes a store, and runs scripts of sessions over it.
 #![tactic(auto)]
 
-mod act;
-mod bytes;
-mod codec;
-mod draft;
-mod entry;
-mod fault;
-mod format;
-mod input;
-mod labels;
-mod laws;
-mod line;
-mod opening;
-mod record;
-mod replay;
-mod rows;
+mod making;
 mod run;
-mod script;
-mod statement;
 mod status;
-mod store;
 #[cfg(test)]
 mod tests;
 mod top;
 mod words;
-mod world;
 
 use disk_host::Host;
 use seg_base::Open;

@@ -1,85 +1,106 @@
-// The run of a whole script.
-ghost use Rattle.std.specs.Prelude.{◌≡◌, ◌<◌, ◌≤◌, ◌^◌, ℕ, [], length, OnOk, OnErr, IfErr, IsErrOf};
-ghost use Rattle.std.specs.Io.KnownBytes.{Appends};
-ghost use Rattle.seg_words.specs.Types.{Shape, Rose};
+// A script run over the store of a disk.
+ghost use Rattle.std.specs.Prelude.{◌≡◌, ◌↔◌, ◌≤◌, ◌^◌, ℕ, List, None, length, IsErrOf};
+ghost use Rattle.seg_words.specs.Types.{Shape as TheShape, Rose};
 ghost use Rattle.disk_model.specs.Types.{Causes};
-ghost use Rattle.assm.specs.Lawful.{IsLawful};
-ghost use Rattle.assm.specs.Lines.{text_of};
-ghost use Rattle.assm.specs.Live.{Live, Lasting};
-ghost use Rattle.assm.specs.Runs.{AreStatements, Finished, Stopped};
+ghost use Rattle.redo_model.specs.Records.{Record};
+ghost use Rattle.store_core.specs.declared.fault.StoreFault.TheVariants as faults;
+ghost use Rattle.script_text.specs.declared.form.TheConstants.{BUILT_FORMS};
+ghost use Rattle.script_text.specs.Spelled.{IsScript};
+ghost use Rattle.assm.specs.Top.{RunTells};
+ghost use Rattle.assm.specs.Ends.{Begins, RunsTo, EndsAs, StopsAs, IsRunEnd};
 
-use crate::fault::RunFault;
-use crate::statement::Statement;
-use crate::world::World;
+use crate::status::Status;
 use disk_model::Disk;
+use recovery::{bad_page, recover};
+use script_text::{Scripts, parse};
+use session_world::{RunFault, run_scripts};
 use std::alloc::Global;
+use store_core::{Loaded, Store, StoreFault};
 use text_port::Sink;
 
-/// Runs the statements in order, and the session's end. Each entry's lines are handed to the sink as it is made.
-fn run_statements<D: Disk, K: Sink>(
+// The store's loan ends here.
+fn give_back<D>(_disk: &mut D)
+    ensures { _disk.new ≡ _disk.old }
+{}
+
+/// Runs scripts over what was read of a disk, over that disk.
+fn run_read<D: Disk, K: Sink>(
     alloc: Global,
-    world: &mut World,
     disk: &mut D,
-    script: &[Statement],
+    loaded: Loaded<D>,
+    scripts: &Scripts,
     sink: &mut K,
 ) -> Result<(), RunFault>
-    requires statements { AreStatements script.now }
-    requires few { length script.now < 2 ^ 32 }
-    requires lawful { IsLawful world.old.store }
-    requires history { world.old.history ≡ [] }
-    requires within { world.old.stable ≤ length world.old.store }
-    ensures within { world.new.stable ≤ length world.new.store }
-    ensures stopped { OnErr result (Stopped (K.written sink.old) (K.written sink.new) script.now world.old.store world.new.store world.new.history) }
-    ensures uncut { IfErr result (λ fault. (fault ≡ RunFault.WriteFault → ⊥) → Appends (K.written sink.old) (K.written sink.new) (text_of world.new.history)) }
-    ensures finished { OnOk result (Finished (K.written sink.old) (K.written sink.new) script.now world.old.store world.new.store world.new.history) }
-    ensures live { (start : ℕ) (shape : Shape) (first : ℕ) → Live D.meaning start shape first disk.old world.old → OnOk result (Live D.meaning start shape first disk.new world.new) }
-    ensures lasts { (start : ℕ) (shape : Shape) (first : ℕ) → Live D.meaning start shape first disk.old world.old → OnErr result (Lasting D.meaning start shape first disk.new world.new) }
-    ensures device_fault { Causes D.meaning disk.old disk.new (IsErrOf result RunFault.DeviceFault) }
+    requires unspent { loaded.fault ≡ None }
+    requires built { IsScript BUILT_FORMS scripts.now }
+    ensures ran { (since : ℕ) (data_bytes : List ℕ) (sh : TheShape) (R : List Record) → Begins D.meaning since data_bytes sh R disk.old loaded
+        → RunsTo D.meaning since data_bytes disk.new (K.written sink.old) (K.written sink.new) sh R scripts.now.sessions result }
+    ensures device_fault { Causes D.meaning disk.old disk.new (IsErrOf result (RunFault.Store faults.DeviceFault)) }
     ensures write_fault { IsErrOf result RunFault.WriteFault → Rose (K.fault_count sink.old) (K.fault_count sink.new) }
-    ensures later { K.fault_count sink.old ≤ K.fault_count sink.new }
+    ensures told { D.meaning.told disk.new ↔ D.meaning.told disk.old }
 {
-    for (i, statement) in script.iter().enumerate() {
-        match world.step(alloc, disk, i as u32 + 1, statement, sink) {
-            Ok(()) => {}
-            Err(fault) => return Err(fault),
-        }
-    }
-    match world.close(alloc, disk, sink) {
-        Ok(()) => Ok(()),
-        Err(fault) => Err(fault),
+    let mut store = Store::over(disk, loaded);
+    let ran = run_scripts(alloc, &mut store, scripts, sink);
+    // What is stable now is in each image of a crash from now on.
+    let _moment = store.moment();
+    let disk = store.into_disk();
+    give_back(disk);
+    ran
+}
+
+/// The status of a store that failed. A page that isn't what an event needed is told by its first byte, as an opening does.
+fn status_of_store<D: Disk>(disk: &mut D, fault: StoreFault) -> Status
+    ensures stops { StopsAs D.meaning disk.old disk.new fault result }
+    ensures later { D.meaning.fault_count disk.old ≤ D.meaning.fault_count disk.new }
+    ensures device { result ≡ Status.DeviceFault → (fault ≡ faults.DeviceFault → ⊥) → Rose (D.meaning.fault_count disk.old) (D.meaning.fault_count disk.new) }
+    ensures told { D.meaning.told disk.new ↔ D.meaning.told disk.old }
+{
+    match fault {
+        StoreFault::DeviceFault => Status::DeviceFault,
+        StoreFault::BadPage { dba } => Status::from(bad_page(disk, dba)),
+        StoreFault::NoMemory => Status::NoMemory,
     }
 }
 
-/// Runs a script, and writes what the log lacks at its end.
-#[tactic(auto, using(crate::proofs::Texts::finished_stopped))]
-pub fn run<D: Disk, K: Sink>(
+/// Runs scripts over what was read of a disk, and says how that ended.
+fn run_opened<D: Disk, K: Sink>(
     alloc: Global,
-    world: &mut World,
     disk: &mut D,
-    script: &[Statement],
+    loaded: Loaded<D>,
+    scripts: &Scripts,
     sink: &mut K,
-) -> Result<(), RunFault>
-    requires statements { AreStatements script.now }
-    requires few { length script.now < 2 ^ 32 }
-    requires lawful { IsLawful world.old.store }
-    requires history { world.old.history ≡ [] }
-    requires within { world.old.stable ≤ length world.old.store }
-    ensures stopped { OnErr result (Stopped (K.written sink.old) (K.written sink.new) script.now world.old.store world.new.store world.new.history) }
-    ensures uncut { IfErr result (λ fault. (fault ≡ RunFault.WriteFault → ⊥) → Appends (K.written sink.old) (K.written sink.new) (text_of world.new.history)) }
-    ensures finished { OnOk result (Finished (K.written sink.old) (K.written sink.new) script.now world.old.store world.new.store world.new.history) }
-    ensures stable { OnOk result (world.new.stable ≡ length world.new.store) }
-    ensures live { (start : ℕ) (shape : Shape) (first : ℕ) → Live D.meaning start shape first disk.old world.old → OnOk result (Live D.meaning start shape first disk.new world.new) }
-    ensures lasts { (start : ℕ) (shape : Shape) (first : ℕ) → Live D.meaning start shape first disk.old world.old → OnErr result (Lasting D.meaning start shape first disk.new world.new) }
-    ensures device_fault { Causes D.meaning disk.old disk.new (IsErrOf result RunFault.DeviceFault) }
-    ensures write_fault { IsErrOf result RunFault.WriteFault → Rose (K.fault_count sink.old) (K.fault_count sink.new) }
-    ensures later { K.fault_count sink.old ≤ K.fault_count sink.new }
+) -> Status
+    requires unspent { loaded.fault ≡ None }
+    requires built { IsScript BUILT_FORMS scripts.now }
+    ensures ends { (since : ℕ) (data_bytes : List ℕ) (sh : TheShape) (R : List Record) → Begins D.meaning since data_bytes sh R disk.old loaded
+        → EndsAs D.meaning since data_bytes disk.new (K.written sink.old) (K.written sink.new) sh R scripts.now.sessions result }
+    ensures only { IsRunEnd D.meaning disk.new result }
+    ensures device_fault { Causes D.meaning disk.old disk.new (result ≡ Status.DeviceFault) }
+    ensures write_fault { result ≡ Status.WriteFault → Rose (K.fault_count sink.old) (K.fault_count sink.new) }
+    ensures told { D.meaning.told disk.new ↔ D.meaning.told disk.old }
 {
-    match run_statements(alloc, world, disk, script, sink) {
-        Ok(()) => {}
-        Err(fault) => return Err(fault),
+    match run_read(alloc, disk, loaded, scripts, sink) {
+        Ok(()) => Status::Done,
+        Err(RunFault::WriteFault) => Status::WriteFault,
+        Err(RunFault::Store(fault)) => status_of_store(disk, fault),
     }
-    match world.flush(alloc, disk) {
-        Ok(()) => Ok(()),
-        Err(fault) => Err(fault),
-    }
+}
+
+/// Runs the text of a script: it is read before the disk is called, and a store is opened before anything is printed.
+#[tactic(auto, using(script_text::proofs::Cuts::few_lines))]
+pub fn run_text<D: Disk, K: Sink>(alloc: Global, disk: &mut D, text: &[u8], sink: &mut K) -> Status
+    requires { length text.now ≤ 2 ^ 24 }
+    ensures tells { RunTells D.meaning disk.old disk.new (K.written sink.old) (K.written sink.new) result text.now }
+    ensures device_fault { Causes D.meaning disk.old disk.new (result ≡ Status.DeviceFault) }
+    ensures write_fault { result ≡ Status.WriteFault → Rose (K.fault_count sink.old) (K.fault_count sink.new) }
+{
+    let scripts = match parse(alloc, text) {
+        Ok(scripts) => scripts,
+        Err(fault) => return Status::from(fault),
+    };
+    let loaded = match recover(alloc, disk) {
+        Ok(loaded) => loaded,
+        Err(fault) => return Status::from(fault),
+    };
+    run_opened(alloc, disk, loaded, &scripts, sink)
 }

@@ -1,12 +1,11 @@
 // How the program ends.
 ghost use Rattle.std.specs.Prelude.{◌≡◌, Some};
-ghost use Rattle.assm.specs.Status.{number_of, status_of_run, status_of_read, status_of_script, status_of_open, file_text, status_text, status_line};
+ghost use Rattle.assm.specs.Status.{number_of, status_of_read, status_of_script, status_of_open, file_text, status_text, status_line};
 
-use crate::fault::RunFault;
-use crate::script::{ScriptFault, Why};
 use disk_model::File;
+use recovery::OpenFault;
+use script_text::{ScriptFault, Why};
 use std::fmt;
-use store_files::OpenFault;
 use text_port::ReadEnd;
 
 /// Shown as the variant's name, with its fields after spaces: numbers in decimal, a file as `data` or `log`.
@@ -89,18 +88,6 @@ impl Status {
             Status::WriteFault => 8,
             Status::ScriptTooLong => 9,
             Status::AlreadyFormatted => 10,
-        }
-    }
-}
-
-impl From<RunFault> for Status {
-    ghost from_gives = { λ fault status. status ≡ status_of_run fault };
-
-    fn from(fault: RunFault) -> Status {
-        match fault {
-            RunFault::NoMemory => Status::NoMemory,
-            RunFault::DeviceFault => Status::DeviceFault,
-            RunFault::WriteFault => Status::WriteFault,
         }
     }
 }

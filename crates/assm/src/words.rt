@@ -3,7 +3,7 @@ ghost use Rattle.std.specs.Prelude.{◌≡◌, IfSome, true, map, string_bytes};
 ghost use Rattle.seg_words.specs.Types.{is_shape};
 ghost use Rattle.assm.specs.Words.{command_in, shape_in, IsWithin};
 
-use crate::bytes::number;
+use script_text::number;
 use seg_base::{MOST_BLOCKS, MOST_EXTENT_BLOCKS, MOST_UNDO_BLOCKS, Shape};
 
 /// What the words ask for.

@@ -1,0 +1,138 @@
+-- What the run of an opened store leaves, and how it ends.
+use Rattle.std.proofs.Common.{◌≡◌, ℕ, ◌<◌, ◌≤◌, Bool, true, false, cond, ltb, List, length, slice_index, Option, Some, None, Ok, Err, Result, refl, sym, ap, ◌∙◌, subst, inl, arith, true≢false, le-ltb, ltb-false}
+use Rattle.std.specs.Borrow.{GName}
+use Rattle.std.specs.Prelude.{OnOk}
+use Rattle.seg_words.specs.Types.{Shape}
+use Rattle.disk_model.specs.Types.{Files, Meaning, Now, Always, Untouched}
+use Rattle.disk_model.specs.declared.disk.File.TheVariants.{Data, Log}
+use Rattle.redo_model.specs.Records.{Record}
+use Rattle.redo_model.specs.Model.{is_active}
+use Rattle.session_laws.specs.Sessions.{own_of}
+use Rattle.session_laws.proofs.Own.{own_active}
+use Rattle.rollback_laws.specs.Closing.{closed}
+use Rattle.script_text.specs.declared.statement.Statement.{Statement}
+use Rattle.history_model.specs.History.{AreInTime}
+use Rattle.history_model.specs.Legal.{IsLegal}
+use Rattle.history_model.specs.Running.{IsAtEnd}
+use Rattle.store_files.specs.declared.fault.OpenFault.{OpenFault}
+use Rattle.store_files.specs.declared.fault.OpenFault.TheVariants as opening
+use Rattle.store_core.specs.Store.{Held, Read, IsTrue, with_disk}
+use Rattle.store_core.specs.Survives.{IsLeft, Survives, Rises}
+use Rattle.store_core.specs.declared.fault.StoreFault.{StoreFault}
+use Rattle.store_core.specs.declared.fault.StoreFault.TheVariants as faults
+use Rattle.recovery.specs.FaultOf.{IsFirstByte, IsPageFault}
+use Rattle.session_model.specs.Laws.{NoneActive}
+use Rattle.session_core.specs.Acting.{KeepsLoan}
+use Rattle.session_world.specs.Whole.{HasRunAll, needed_by}
+use Rattle.session_world.specs.declared.fault.RunFault.{RunFault}
+use Rattle.session_world.specs.declared.fault.RunFault.TheVariants as stops
+use Rattle.assm.specs.Status.{status_of_open}
+use Rattle.assm.specs.declared.status.Status.{Status}
+use Rattle.assm.specs.declared.status.Status.TheVariants as the
+use Rattle.assm.specs.Top.{Ran, RanLines}
+use Rattle.assm.specs.Ends.{Begins, RunsTo, EndsAs, IsBlockByte, StopsAs}
+
+-- a session of an inactive list has no transaction
+no_own : (R : List Record) (w : ℕ) (o : Option ℕ) → own_of R w ≡ o → ((t : ℕ) → is_active R t ≡ false) → own_of R w ≡ None
+no_own R w None e none = e
+no_own R w (Some t) e none = absurd (true≢false (sym (own_active R w t e) ∙ none t))
+
+pub none_active : (R : List Record) → ((t : ℕ) → is_active R t ≡ false) → NoneActive R
+none_active R none w = no_own R w (own_of R w) refl none
+
+-- so many before a moment, and all from it on
+abbrev raised : ℕ → (ℕ → ℕ) → ℕ → ℕ → ℕ
+raised moment needed all m = cond (ltb m moment) (needed m) all
+
+raised_before : (moment a all m : ℕ) (b : Bool) → ltb m moment ≡ b → m < moment → cond b a all ≤ a
+raised_before moment a all m true e lt = omega arith
+raised_before moment a all m false e lt = absurd (omega (arith, ltb-false m moment e, lt))
+
+module _ {D : Type 0} (meaning : Meaning D) where
+  -- what a crash leaves of a store, as the files and the shape with which the run began have it
+  left_over : (since : ℕ) (needed : ℕ → ℕ) (R : List Record) (b : Held D) (disk' : D) (sh : Shape) (data_bytes : List ℕ) → b.disk ≡ disk' → b.shape ≡ sh → (meaning.files b.first).data_bytes ≡ data_bytes → Survives meaning since needed R b → Always meaning since disk' (λ m image. IsLeft sh data_bytes R (needed m) image)
+  left_over since needed R b disk' sh data_bytes d s f h =
+      subst (λ (x : D). Always meaning since x (λ m image. IsLeft sh data_bytes R (needed m) image)) d
+      (subst (λ (x : List ℕ). Always meaning since b.disk (λ m image. IsLeft sh x R (needed m) image)) f
+      (subst (λ (x : Shape). Always meaning since b.disk (λ m image. IsLeft x (meaning.files b.first).data_bytes R (needed m) image)) s h.each))
+
+  module _ (since : ℕ) (data_bytes : List ℕ) (sh : Shape) (R : List Record) (disk disk' : D) (loan : GName) (loaded : Read D) (a b : Held D) (scripts : List (List Statement)) (old new : Option (List ℕ)) (from : a ≡ with_disk disk loan loaded) (to : b.disk ≡ disk') (begins : Begins meaning since data_bytes sh R disk loaded) (keeps : KeepsLoan meaning a b) where
+    stands : IsTrue meaning (closed R) a
+    stands = subst (IsTrue meaning (closed R)) (sym from) (begins.opened loan).list
+
+    pub no_one : NoneActive (closed R)
+    no_one = none_active (closed R) (begins.opened loan).closes.none_active
+
+    shape_is : a.shape ≡ sh
+    shape_is = ap (λ (s : Held D). s.shape) from ∙ (begins.opened loan).shape
+
+    data_is : (meaning.files b.first).data_bytes ≡ data_bytes
+    data_is = ap (λ (d : D). (meaning.files d).data_bytes) (keeps.first ∙ ap (λ (s : Held D). s.first) from) ∙ begins.file
+
+    survives_on : (result : Result (Unit {0}) RunFault) → (run : HasRunAll meaning scripts (closed R) a b old new result) → Survives meaning since (needed_by (length R) run.history) run.records b
+    survives_on result run = run.survives since (length R) (subst (Survives meaning since (λ m. length R) (closed R)) (sym from) (begins.survives loan))
+
+    abbrev part_of : (result : Result (Unit {0}) RunFault) → HasRunAll meaning scripts (closed R) a b old new result → Ran meaning since data_bytes disk' old new sh R scripts
+    part_of result run = record {
+      records = run.records;
+      history = run.history;
+      legal = subst (λ (s : Shape). IsLegal s scripts (closed R) run.records run.history) shape_is run.legal;
+      in_time = subst (λ (d : D). AreInTime (meaning.clock d) run.history) to run.in_time;
+      took = run.took;
+      survives = left_over since (needed_by (length R) run.history) run.records b disk' sh data_bytes to (keeps.shape ∙ shape_is) data_is (survives_on result run);
+    }
+
+    -- all records are in each image from now on, where all are stable
+    all_left : (done : Unit {0}) (run : HasRunAll meaning scripts (closed R) a b old new (Ok done)) (moment : ℕ) → moment ≡ meaning.clock b.disk → b.fault ≡ None
+        → ((since : ℕ) (needed more : ℕ → ℕ) (Q : List Record) → IsTrue meaning Q b → b.fault ≡ None → Survives meaning since needed Q b → Rises needed more moment b.log.stable → Survives meaning since more Q b)
+        → (image : Files) → Now meaning disk' image → IsLeft sh data_bytes run.records (length run.records) image
+    all_left done run moment is unspent rises image crash =
+        let needed : ℕ → ℕ = needed_by (length R) run.history in
+        let more : ℕ → ℕ = raised moment needed (length run.records) in
+        let goes : Rises needed more moment b.log.stable = record {
+          before = λ m lt. raised_before moment (needed m) (length run.records) m (ltb m moment) refl lt;
+          since = λ m le. subst (λ (n : ℕ). n ≤ b.log.stable) (sym (ap (λ (t : Bool). cond t (needed m) (length run.records)) (le-ltb m moment le))) (omega (arith, run.stable));
+        } in
+        let lasts = rises since needed more run.records run.stands unspent (survives_on (Ok done) run) goes in
+        let at : (m : ℕ) → meaning.clock disk' ≡ m → more m ≡ length run.records = λ m e. ap (λ (t : Bool). cond t (needed m) (length run.records)) (le-ltb m moment (omega (arith, is, ap meaning.clock to, e))) in
+        let begun : since ≤ meaning.clock disk' = subst (λ (d : D). since ≤ meaning.clock d) to lasts.begun in
+        subst (λ (n : ℕ). IsLeft sh data_bytes run.records n image) (at (meaning.clock disk') refl)
+        (left_over since more run.records b disk' sh data_bytes to (keeps.shape ∙ shape_is) data_is lasts (meaning.clock disk') image begun (omega arith) crash)
+
+    pub runs_to : (result : Result (Unit {0}) RunFault) → ((R0 : List Record) → IsTrue meaning R0 a → NoneActive R0 → HasRunAll meaning scripts R0 a b old new result) → OnOk result (b.fault ≡ None) → (moment : ℕ) → moment ≡ meaning.clock b.disk
+        → ((since : ℕ) (needed more : ℕ → ℕ) (Q : List Record) → IsTrue meaning Q b → b.fault ≡ None → Survives meaning since needed Q b → Rises needed more moment b.log.stable → Survives meaning since more Q b)
+        → RunsTo meaning since data_bytes disk' old new sh R scripts result
+    runs_to (Ok done) ran unspent moment is rises =
+        let run = ran (closed R) stands no_one in
+        record {
+          ran = part_of (Ok done) run;
+          printed = run.printed;
+          over = subst (λ (d : D). IsAtEnd sh scripts (closed R) run.records run.history (meaning.clock d)) to (subst (λ (s : Shape). IsAtEnd s scripts (closed R) run.records run.history (meaning.clock b.disk)) shape_is run.over);
+          stable = all_left done run moment is unspent rises;
+        }
+    runs_to (Err stops.WriteFault) ran unspent moment is rises = part_of (Err stops.WriteFault) (ran (closed R) stands no_one)
+    runs_to (Err (stops.Store faults.DeviceFault)) ran unspent moment is rises =
+        let run = ran (closed R) stands no_one in
+        record { ran = part_of (Err (stops.Store faults.DeviceFault)) run; lines = inl run.printed }
+    runs_to (Err (stops.Store faults.NoMemory)) ran unspent moment is rises =
+        let run = ran (closed R) stands no_one in
+        record { ran = part_of (Err (stops.Store faults.NoMemory)) run; lines = run.printed }
+    runs_to (Err (stops.Store (faults.BadPage dba))) ran unspent moment is rises = absurd (ran (closed R) stands no_one).sound
+
+  -- ---- the status
+  -- the byte of a page that is wrong
+  pub block_byte : (disk disk' : D) (d : ℕ) (fault : OpenFault) → Untouched meaning disk disk' → IsPageFault d fault → (meaning.told disk → IsFirstByte (meaning.files disk) d fault) → IsBlockByte meaning disk' d (status_of_open fault)
+  block_byte disk disk' d opening.DeviceFault look place byte = tt
+  block_byte disk disk' d (opening.BadFile Data offset seen) look place byte = (place, λ told. let was = look.told.0 told in (byte was).1 ∙ ap (λ (f : Files). slice_index f.data_bytes offset) (sym (look.files was)))
+  block_byte disk disk' d (opening.BadFile Log offset seen) look place byte = absurd place
+  block_byte disk disk' d opening.NotFormatted look place byte = absurd place
+  block_byte disk disk' d opening.AlreadyFormatted look place byte = absurd place
+  block_byte disk disk' d opening.NoMemory look place byte = absurd place
+
+  -- a run that stopped at a fault of the store ends so
+  pub ends_as : (since : ℕ) (data_bytes : List ℕ) (disk disk' : D) (sh : Shape) (R : List Record) (scripts : List (List Statement)) (old new : Option (List ℕ)) (fault : StoreFault) (status : Status) → StopsAs meaning disk disk' fault status → RunsTo meaning since data_bytes disk old new sh R scripts (Err (stops.Store fault)) → EndsAs meaning since data_bytes disk' old new sh R scripts status
+  ends_as since data_bytes disk disk' sh R scripts old new faults.DeviceFault status h ran =
+      subst (λ (s : Status). EndsAs meaning since data_bytes disk' old new sh R scripts s) (sym h.0) (subst (λ (d : D). RanLines meaning since data_bytes d old new sh R scripts) (sym h.1) ran)
+  ends_as since data_bytes disk disk' sh R scripts old new faults.NoMemory status h ran =
+      subst (λ (s : Status). EndsAs meaning since data_bytes disk' old new sh R scripts s) (sym h.0) (subst (λ (d : D). RanLines meaning since data_bytes d old new sh R scripts) (sym h.1) ran)
+  ends_as since data_bytes disk disk' sh R scripts old new (faults.BadPage d) status h ran = absurd ran

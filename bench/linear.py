@@ -34,7 +34,7 @@ def commits(count):
 def fresh(program):
     """A folder with a new store, or an empty one where the program keeps no files."""
     folder = tempfile.mkdtemp(prefix="assm-bench-")
-    subprocess.run([program, "format", "64", "8", "2"], cwd=folder, capture_output=True, check=False)
+    subprocess.run([program, "format", "8192", "64", "1024"], cwd=folder, capture_output=True, check=False)
     return folder
 
 
@@ -51,8 +51,8 @@ def seconds(program, text):
         before, start = worked(), time.perf_counter()
         done = subprocess.run([program, "run"], input=text, cwd=folder, capture_output=True, check=False)
         taken = worked() - before, time.perf_counter() - start
-        if done.returncode != 0:
-            sys.exit(f"status {done.returncode}: {done.stderr.decode()}")
+        if done.returncode != 0 or b" refused " in done.stdout:
+            sys.exit(f"status {done.returncode}: {done.stderr.decode()}, or a statement was refused")
         return taken
     finally:
         shutil.rmtree(folder)
@@ -83,7 +83,7 @@ def main():
     if len(sys.argv) != 2:
         sys.exit(__doc__)
     program = os.path.abspath(sys.argv[1])
-    ratio(program, "inserts in one transaction, and a scan", inserts, 50_000)
+    ratio(program, "inserts in one transaction, and a scan", inserts, 20_000)
     ratio(program, "inserts, each with its commit", commits, 2_000)
     syncs(program, 2_000)
 

@@ -37,6 +37,7 @@ class Spec:
         self.aliases = {}
         self.again = {}
         self.blocks = {}
+        self.makers = {}
         self.read()
 
     def read(self):
@@ -59,6 +60,8 @@ class Spec:
             field = indent >= 2 and re.match(r"\s*(pub )?[\w'-]+ :", line) and name and self.in_record(name)
             if starts and not field:
                 name = found.group(1)
+            if field and re.search(r"\bdata ", self.lines[self.blocks[name][0]]):
+                self.makers[found.group(1)] = name
             if name:
                 self.blocks.setdefault(name, []).append(number)
 
@@ -121,6 +124,8 @@ class Walk:
             return
         if name in here.again:
             self.want(*here.again[name])
+        elif name in here.makers:
+            self.want(where, here.makers[name])
         elif name in here.blocks:
             if (here, name) not in self.reached:
                 self.reached.add((here, name))

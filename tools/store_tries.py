@@ -9,7 +9,8 @@ import subprocess
 import sys
 import tempfile
 
-SHAPE = ["64", "8", "2"]
+# Of 1,024 blocks 912 are in extents: room for some sixty thousand short rows.
+SHAPE = ["1024", "16", "64"]
 
 
 def program():
@@ -23,12 +24,12 @@ def program():
 
 
 @contextlib.contextmanager
-def fresh_store(path, formatted=True):
+def fresh_store(path, formatted=True, shape=SHAPE):
     """A fresh folder, with an empty store in it."""
     folder = tempfile.mkdtemp(prefix="assm-try-")
     try:
         if formatted:
-            done = subprocess.run([path, "format", *SHAPE], cwd=folder, capture_output=True, check=False)
+            done = subprocess.run([path, "format", *shape], cwd=folder, capture_output=True, check=False)
             if done.returncode != 0:
                 sys.exit(f"format ended with status {done.returncode}: {done.stderr.decode()}")
         yield folder

@@ -3,14 +3,14 @@
 
     tools/try_address_space.py PROGRAM
 
-100,000 rows in 20 commits, under limits from 4 to 400 MB. Each run must end with Done or NoMemory, and a second process
+50,000 rows in 20 commits, under limits from 4 to 400 MB. Each run must end with Done or NoMemory, and a second process
 must find the rows of each commit that was printed.
 """
 import resource
 
 from store_tries import Findings, fresh_store, kept_rows, printed_commits, program, run, script, status
 
-ROWS, COMMITS = 100_000, 20
+ROWS, COMMITS = 50_000, 20
 
 
 def large():

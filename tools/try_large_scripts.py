@@ -16,6 +16,7 @@ from store_tries import Findings, fresh_store, program
 
 HERE = os.path.dirname(os.path.abspath(__file__))
 MOST = 1 << 24
+LARGE = ("16384", "64", "64")
 
 
 def rows(width, size=MOST):
@@ -55,7 +56,7 @@ def main():
         ("one byte more", wide + b"\n", 9),
     )
     for name, text, status in cases:
-        with fresh_store(path) as folder:
+        with fresh_store(path, shape=LARGE) as folder:
             number, seconds, megabytes = measured(path, folder, text)
             found.tell(f"{name}, {len(text)} bytes: status {number}, {seconds:.2f} s, {megabytes} MiB at most", number == status)
     found.end()

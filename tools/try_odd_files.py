@@ -67,7 +67,7 @@ def missing(path, found):
     with fresh_store(path, formatted=False) as folder:
         told(found, "run without a store", run(path, folder, TEXT), 6, "assm: NotFormatted")
         told(found, "no words", run(path, folder, TEXT, words=()), 1, "assm: BadWords")
-        told(found, "a bad script", run(path, folder, b"table t 10\n"), 2, "assm: BadScript 1 NotAStatement")
+        told(found, "a bad script", run(path, folder, b"table t 10\n"), 2, "assm: BadScript 1 SessionOrder")
         found.tell(f"the folder then has {os.listdir(folder)}", os.listdir(folder) == [])
     cases = [("assm.log", 6, "assm: NotFormatted"), ("assm.dat", 5, "assm: BadFile data 0 0")]
     for name, code, line in cases:

@@ -39,6 +39,7 @@ __attribute__((destructor)) static void tell(void) {
 }
 """
 
+SMALL = ("64", "8", "2")
 SCRIPT = script(["table t 10", "insert t @a hello", "commit", "scan t", "insert t @b world", "scan u", "commit"])
 
 
@@ -52,7 +53,7 @@ def library(folder):
 
 def one(path, counting, words, **variables):
     """How a run went, and what was there afterwards."""
-    with fresh_store(path, formatted=words == ("run",)) as folder:
+    with fresh_store(path, formatted=words == ("run",), shape=SMALL) as folder:
         environment = {**os.environ, "LD_PRELOAD": counting, **variables}
         done = run(path, folder, SCRIPT, words=words, env=environment)
         rows, fault = kept_rows(path, folder)

@@ -12,7 +12,7 @@ use std::test::Fail;
 use store_core::{Store, StoreFault, prepare};
 use txn_end::{back_step, commit, end_back};
 
-const OTHER: Dba = Dba(44);
+pub(super) const OTHER: Dba = Dba(44);
 
 const GROWN: [u8; 400] = [119; 400];
 
@@ -23,7 +23,7 @@ fn insert_by(alloc: Global, store: &mut Store<Memory>, own: Option<TxnId>, bytes
 }
 
 // Rows of 100, 1,800 and 1,790 bytes, committed: 222 bytes of their block stay free, and the list has ten records.
-fn fill_block(alloc: Global, store: &mut Store<Memory>) -> Result<[Answer; 3], Fail> {
+pub(super) fn fill_block(alloc: Global, store: &mut Store<Memory>) -> Result<[Answer; 3], Fail> {
     make_table(alloc, store, 0)?;
     let first = insert_by(alloc, store, None, &[120; 100]);
     let second = insert_by(alloc, store, Some(TxnId(1)), &[121; 1_800]);
@@ -33,12 +33,12 @@ fn fill_block(alloc: Global, store: &mut Store<Memory>) -> Result<[Answer; 3], F
 }
 
 // Where row 1 stands at first.
-fn before() -> Place {
+pub(super) fn before() -> Place {
     stands(0, 37, 1, 0, 1)
 }
 
 // Session 2 makes row 1 longer than its block has room for.
-fn grow(alloc: Global, store: &mut Store<Memory>, to: Option<Dba>) -> Answer {
+pub(super) fn grow(alloc: Global, store: &mut Store<Memory>, to: Option<Dba>) -> Answer {
     told(update(alloc, store, 2, None, TABLE, &before(), &GROWN, to))
 }
 

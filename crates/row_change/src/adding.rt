@@ -5,7 +5,7 @@ ghost use Rattle.redo_model.specs.Records.{Record};
 ghost use Rattle.redo_model.specs.Model.{IsLawful, is_whole};
 ghost use Rattle.store_core.specs.Causes.{HasCause};
 ghost use Rattle.store_core.specs.Store.{HasList, IsTrue, SameLoan};
-ghost use Rattle.store_core.specs.Adding.{Adds};
+ghost use Rattle.store_core.specs.Adding.{Adds, HasTried};
 ghost use Rattle.row_change.specs.Adding.{AddsAll, AreLawful, begun, reused};
 
 use crate::draft::Additions;
@@ -17,6 +17,7 @@ fn add_one<D: Disk>(store: &mut Store<D>, rec: &Record) -> Result<(), StoreFault
     ensures makes { (R : List Record) → IsTrue D.meaning R store.old → IsLawful store.old.shape (rec.now ∷ R) → Adds D.meaning R (rec.now ∷ R) store.old store.new result }
     ensures loan { SameLoan D.meaning store.old store.new }
     ensures cause { HasCause D.meaning store.old store.new result }
+    ensures tried { HasTried D.meaning store.old store.new result }
 {
     match store.record(rec) {
         Ok(_) => Ok(()),
@@ -28,6 +29,7 @@ fn add_two<D: Disk>(store: &mut Store<D>, first: &Record, second: &Record) -> Re
     ensures makes { (R : List Record) → IsTrue D.meaning R store.old → IsLawful store.old.shape (second.now ∷ first.now ∷ R) → is_whole (first.now ∷ R) ≡ false → Adds D.meaning R (second.now ∷ first.now ∷ R) store.old store.new result }
     ensures loan { SameLoan D.meaning store.old store.new }
     ensures cause { HasCause D.meaning store.old store.new result }
+    ensures tried { HasTried D.meaning store.old store.new result }
 {
     match store.record_two(first, second) {
         Ok(_) => Ok(()),
@@ -35,7 +37,8 @@ fn add_two<D: Disk>(store: &mut Store<D>, first: &Record, second: &Record) -> Re
     }
 }
 
-fn add_change<D: Disk>(
+/// Adds the record of a change, in one group with a Reuse where it has one.
+pub fn add_change<D: Disk>(
     store: &mut Store<D>,
     reuse: Option<ReuseRecord>,
     change: &Record,
@@ -43,6 +46,7 @@ fn add_change<D: Disk>(
     ensures makes { (R : List Record) → IsTrue D.meaning R store.old → IsLawful store.old.shape (change.now ∷ reused reuse R) → Adds D.meaning R (change.now ∷ reused reuse R) store.old store.new result }
     ensures loan { SameLoan D.meaning store.old store.new }
     ensures cause { HasCause D.meaning store.old store.new result }
+    ensures tried { HasTried D.meaning store.old store.new result }
 {
     match reuse {
         None => add_one(store, change),

@@ -111,7 +111,7 @@ fn part_of(fill: Fill, txn: TxnId, undo: UndoAddr) -> RowPart
 }
 
 /// The place of undo of the part at place i.
-fn place_at(undo: UndoAddr, i: u8) -> UndoAddr
+pub fn place_at(undo: UndoAddr, i: u8) -> UndoAddr
     requires { undo.nth + i < 2 ^ 8 }
     ensures { result ≡ part_addr undo i }
 {
@@ -122,7 +122,8 @@ fn place_at(undo: UndoAddr, i: u8) -> UndoAddr
     }
 }
 
-fn two_parts(alloc: Global, a: RowPart, b: RowPart) -> Result<Parts<RowPart>, NoMemory>
+/// Two parts in this order.
+pub fn two_parts(alloc: Global, a: RowPart, b: RowPart) -> Result<Parts<RowPart>, NoMemory>
     ensures { IfOk result (λ parts. parts ≡ a ∷ b ∷ []) }
 {
     let mut parts = Parts::one(alloc, a)?;
@@ -130,7 +131,8 @@ fn two_parts(alloc: Global, a: RowPart, b: RowPart) -> Result<Parts<RowPart>, No
     Ok(parts)
 }
 
-fn three_parts(
+/// Three parts in this order.
+pub fn three_parts(
     alloc: Global,
     a: RowPart,
     b: RowPart,

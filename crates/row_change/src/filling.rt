@@ -21,7 +21,8 @@ use seg_base::{Dba, Kind, NoMemory, RowNo, Rowid, Text};
 use std::alloc::Global;
 use store_core::{Store, StoreFault};
 
-fn nothing(alloc: Global) -> Content
+/// An Empty slot.
+pub fn nothing(alloc: Global) -> Content
     ensures content { told_content result ≡ nothing }
     ensures short { length result.bytes ≤ LONGEST_ROW }
 {

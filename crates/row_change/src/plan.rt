@@ -28,7 +28,8 @@ pub enum Planned {
     Spent(Sequence<(Dba, TxnId)>),
 }
 
-fn undo_start(reuse: ReuseRecord) -> UndoAddr
+/// Where undo goes first in a block that is taken into use.
+pub fn undo_start(reuse: ReuseRecord) -> UndoAddr
     ensures { result ≡ undo_start reuse }
 {
     UndoAddr {

@@ -86,7 +86,8 @@ fn new_slot(alloc: Global) -> Slot
     }
 }
 
-fn image_at(alloc: Global, block: &RowBlock, n: u8) -> Result<Slot, NoMemory>
+/// A copy of the image of a slot.
+pub fn image_at(alloc: Global, block: &RowBlock, n: u8) -> Result<Slot, NoMemory>
     ensures { IfOk result (λ image. image ≡ slice_index_or block.now.block.slots n new_slot) }
 {
     match block.slot(n) {
@@ -142,7 +143,8 @@ fn replaced_at(
     })
 }
 
-fn slot_or(slot: Option<u8>, block: &RowBlock, ended: &EndedIn) -> u8
+/// The slot, else where a new row goes.
+pub fn slot_or(slot: Option<u8>, block: &RowBlock, ended: &EndedIn) -> u8
     ensures { result ≡ slot_or (ended_by ended.now.table.now) block.now.block slot }
 {
     match slot {

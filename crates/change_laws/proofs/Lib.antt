@@ -1,3 +1,4 @@
+pub mod RowRoom
 pub mod ReadyLaw
 pub mod SpotLaw
 pub mod BegunLaw

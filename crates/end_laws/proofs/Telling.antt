@@ -13,6 +13,7 @@ use Rattle.redo_model.proofs.Bridge.{entry_is, entry_count_is}
 use Rattle.redo_laws.specs.Economy.{EachStep, HaveOwnUndo}
 use Rattle.redo_laws.specs.Reads.{StandAt, IsPresent}
 use Rattle.redo_laws.proofs.allowed.Basics.{EffectBasics, basics}
+use Rattle.redo_laws.proofs.allowed.FewParts.{EffectFew, few}
 use Rattle.redo_laws.proofs.lists.Every.{Every, every-filter}
 use Rattle.redo_laws.proofs.numbers.Bounds.{Limits, limits, places_bound, current_bound}
 use Rattle.redo_laws.proofs.space.Places.{InExtent, in_data, in_contains, in_take}
@@ -43,41 +44,6 @@ current_used (Reuse q ∷ R) u e =
     let is : undo_sequence (Reuse q ∷ R) u ≡ suc (undo_sequence R u) = cond-true _ _ _ (eq-eqb q.block u same) in
     omega (arith, is)
 current_used (_ ∷ R) u e = current_used R u e
-
-abbrev EffectFew : Effect → Type 0
-EffectFew (Adds st) = length st.parts ≤ 3
-EffectFew _ = Unit {0}
-
-one : (ps : List RowPart) (p : RowPart) → ps ≡ p ∷ [] → length ps ≤ 3
-one ps p e = subst (λ (xs : List RowPart). length xs ≤ 3) (sym e) (omega arith)
-
-two : (ps : List RowPart) (p q : RowPart) → ps ≡ p ∷ q ∷ [] → length ps ≤ 3
-two ps p q e = subst (λ (xs : List RowPart). length xs ≤ 3) (sym e) (omega arith)
-
-three : (ps : List RowPart) (p q r : RowPart) → ps ≡ p ∷ q ∷ r ∷ [] → length ps ≤ 3
-three ps p q r e = subst (λ (xs : List RowPart). length xs ≤ 3) (sym e) (omega arith)
-
-migrate_few : (sh : Shape) (R : List Record) (w : RowBody) → MigrateAllowed sh R w → length w.parts ≤ 3
-migrate_few sh R w (migrates_plain m) = two _ _ _ m.parts
-migrate_few sh R w (migrates_again m) = three _ _ _ _ m.parts
-
-delete_few : (sh : Shape) (R : List Record) (w : RowBody) → DeleteAllowed sh R w → length w.parts ≤ 3
-delete_few sh R w (deletes_plain m) = one _ _ m.parts
-delete_few sh R w (deletes_migrated m) = two _ _ _ m.parts
-
-move_few : (sh : Shape) (R : List Record) (m : MoveRecord) → MoveAllowed sh R m → length m.parts ≤ 3
-move_few sh R m (moves_plain a) = two _ _ _ a.parts
-move_few sh R m (moves_to_body a) = two _ _ _ a.parts
-move_few sh R m (moves_migrated a) = three _ _ _ _ a.parts
-
-few : (sh : Shape) (R : List Record) (r : Record) → IsKindAllowed sh R r → EffectFew (effect_of r)
-few sh R (Insert w) a = one _ _ a.parts
-few sh R (Update w) a = one _ _ a.parts
-few sh R (Migrate w) a = migrate_few sh R w a
-few sh R (Return w) a = two _ _ _ a.parts
-few sh R (Delete w) a = delete_few sh R w a
-few sh R (Move m) a = move_few sh R m a
-few sh R _ a = tt
 
 few_effect : (sh : Shape) (R : List Record) (e : Effect) → LEAST_UNDO_BLOCKS ≤ sh.undo → AreAllowed sh R → EffectBasics R e → EffectFew e → Every (StepFew sh) (standing R) → Every (StepFew sh) (standing_steps e (standing R))
 few_effect sh R Still two h b f k = k

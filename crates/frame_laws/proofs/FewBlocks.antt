@@ -6,6 +6,7 @@ use Rattle.redo_model.specs.Model.{Step, Effect, effect_of, is_by, newest_of, st
 use Rattle.redo_model.specs.Effects.{Still, Formats, Adds, TakesBack, Cleans}
 use Rattle.redo_model.specs.AllowedRows.{migrates_plain, migrates_again, deletes_plain, deletes_migrated}
 use Rattle.redo_model.specs.AllowedMoves.{moves_plain, moves_to_body, moves_migrated}
+use Rattle.redo_laws.proofs.allowed.FewParts.{EffectFew, few}
 use Rattle.redo_laws.proofs.lists.Every.{Every, every-filter}
 use Rattle.page_model.specs.Types.{blocks_of, back_blocks}
 use Rattle.page_set.specs.Among.{is_among}
@@ -44,41 +45,6 @@ back_long (p ∷ ps) = ap (λ (n : ℕ). suc n) (back_long ps)
 
 abbrev StepFew : Step → Type 0
 StepFew st = length st.parts ≤ 3
-
-abbrev EffectFew : Effect → Type 0
-EffectFew (Adds st) = StepFew st
-EffectFew _ = Unit {0}
-
-one : (ps : List RowPart) (p : RowPart) → ps ≡ p ∷ [] → length ps ≤ 3
-one ps p e = subst (λ (xs : List RowPart). length xs ≤ 3) (sym e) (omega arith)
-
-two : (ps : List RowPart) (p q : RowPart) → ps ≡ p ∷ q ∷ [] → length ps ≤ 3
-two ps p q e = subst (λ (xs : List RowPart). length xs ≤ 3) (sym e) (omega arith)
-
-three : (ps : List RowPart) (p q r : RowPart) → ps ≡ p ∷ q ∷ r ∷ [] → length ps ≤ 3
-three ps p q r e = subst (λ (xs : List RowPart). length xs ≤ 3) (sym e) (omega arith)
-
-migrate_few : (sh : Shape) (R : List Record) (w : RowBody) → MigrateAllowed sh R w → length w.parts ≤ 3
-migrate_few sh R w (migrates_plain m) = two _ _ _ m.parts
-migrate_few sh R w (migrates_again m) = three _ _ _ _ m.parts
-
-delete_few : (sh : Shape) (R : List Record) (w : RowBody) → DeleteAllowed sh R w → length w.parts ≤ 3
-delete_few sh R w (deletes_plain m) = one _ _ m.parts
-delete_few sh R w (deletes_migrated m) = two _ _ _ m.parts
-
-move_few : (sh : Shape) (R : List Record) (m : MoveRecord) → MoveAllowed sh R m → length m.parts ≤ 3
-move_few sh R m (moves_plain a) = two _ _ _ a.parts
-move_few sh R m (moves_to_body a) = two _ _ _ a.parts
-move_few sh R m (moves_migrated a) = three _ _ _ _ a.parts
-
-few : (sh : Shape) (R : List Record) (r : Record) → IsKindAllowed sh R r → EffectFew (effect_of r)
-few sh R (Insert w) a = one _ _ a.parts
-few sh R (Update w) a = one _ _ a.parts
-few sh R (Migrate w) a = migrate_few sh R w a
-few sh R (Return w) a = two _ _ _ a.parts
-few sh R (Delete w) a = delete_few sh R w a
-few sh R (Move m) a = move_few sh R m a
-few sh R _ a = tt
 
 few_effect : (e : Effect) (ss : List Step) → EffectFew e → Every StepFew ss → Every StepFew (standing_steps e ss)
 few_effect Still ss f k = k

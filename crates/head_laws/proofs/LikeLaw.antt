@@ -12,7 +12,7 @@ use Rattle.redo_laws.proofs.steps.Facts.{StepFits, EffectFits}
 use Rattle.redo_laws.proofs.steps.Held.{own_newest}
 use Rattle.redo_laws.proofs.spread.Spread.{good}
 use Rattle.redo_laws.proofs.spread.Stays.{MayStay, same_counted, writes_stay, restores_stay}
-use Rattle.redo_laws.proofs.spread.StaysLaw.{later_commits}
+use Rattle.redo_laws.proofs.spread.StaysLaw.{later_commits, counts_stay, active_off, step_off, back_by, by_off}
 use Rattle.redo_laws.proofs.spread.Fitting.{Whole}
 use Rattle.redo_laws.proofs.spread.Whole.{whole}
 
@@ -55,42 +55,6 @@ effect_like R c b k (Cleans d cs) h = elim (eqb d b) as (λ v. IsLike (first_cou
   | true ↦ like_first c (clean_slot cs (image R b k)) (image R b k) (makers R b k) (clean_like cs (image R b k))
   | false ↦ like_same (first_counted c (image R b k) (makers R b k)) (first_counted c (image R b k) (makers R b k)) refl
 ]
-
--- what counts, as the list grows
-
-counts_stay : (R : List Record) (r : Record) (s t : ℕ) → s ≤ commit_count R → (w : Writer) → counts (r ∷ R) s t w ≡ counts R s t w
-counts_stay R r s t l (At c) = refl
-counts_stay R (Commit c) s t l (By u) = ap (λ v. eqb u t || (v || is_committed_by R s u)) (and_right (eqb c.txn u) _ (le-ltb (commit_count R) s l))
-counts_stay R _ s t l (By u) = refl
-
-not_by : (w : Writer) (t u : ℕ) → IsNotBy w t → w ≡ By u → u ≡ t → ⊥
-not_by (By v) t u f e g = f ((let x : v ≡ u = cc in x) ∙ g)
-not_by (At c) t u f e g = absurd (let x : At c ≡ By u = e in cc)
-
-active_off : (sh : Shape) (R : List Record) (s t u : ℕ) → AreAllowed sh R → is_active R u ≡ true → (u ≡ t → ⊥) → counts R s t (By u) ≡ false
-active_off sh R s t u h on ne = both_off (eqb u t) (is_committed_by R s u) (ne_eqb u t ne) ((known sh R s u h).open' on)
-  where
-    both_off : (x y : Bool) → x ≡ false → y ≡ false → (x || y) ≡ false
-    both_off x y p q = rw (p, q) refl
-
-step_off : (sh : Shape) (R : List Record) (st : Step) (s t : ℕ) → AreAllowed sh R → s ≤ commit_count R → StepFits R st → IsNotBy st.by t → counts R s t st.by ≡ false
-step_off sh R st s t h l f n = go st.by refl
-  where
-    go : (w : Writer) → st.by ≡ w → counts R s t w ≡ false
-    go (By u) e = active_off sh R s t u h (f.live u e) (λ g. not_by st.by t u n e g)
-    go (At m) e = lt-leb m s (let k = (f.kept m e).number in omega (arith, k, l))
-
-back_by : (ss : List Step) (u : ℕ) (st : Step) → newest_of ss u ≡ Some st → is_by st.by u ≡ true
-back_by [] u st h = absurd (let x : ◌≡◌ {A = Option Step} None (Some st) = h in cc)
-back_by (x ∷ ss) u st h =
-    (elim (is_by x.by u) as (λ v. is_by x.by u ≡ v → cond v (Some x) (newest_of ss u) ≡ Some st → is_by st.by u ≡ true) [
-      | true ↦ λ e f. let same : x ≡ st = cc in subst (λ (z : Step). is_by z.by u ≡ true) same e
-      | false ↦ λ e f. back_by ss u st f
-    ]) refl h
-
-by_off : (c : Writer → Bool) (w : Writer) (u : ℕ) → is_by w u ≡ true → c (By u) ≡ false → c w ≡ false
-by_off c (By v) u e f = ap (λ x. c (By x)) (eqb-true v u e) ∙ f
-by_off c (At m) u e f = absurd (true≢false (sym e))
 
 may_stay : (sh : Shape) (R : List Record) (ef : Effect) (b k s t : ℕ) → AreAllowed sh R → Whole sh R → EffectFits R ef → s ≤ commit_count R → IsQuiet t b ef → MayStay R (λ w a. counts R s t w) b k ef
 may_stay sh R Still b k s t h w f l q = tt

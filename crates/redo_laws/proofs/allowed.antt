@@ -2,3 +2,4 @@
 pub mod Basics
 pub mod Shapes
 pub mod AllKinds
+pub mod FewParts

@@ -24,7 +24,7 @@ later_commits P Q R not_later = le_refl (commit_count Q)
 later_commits P Q R (one_later {R = S} r h f) = le_trans (later_commits P Q S h) (commits_more S r)
 
 -- whose writing counts stays
-counts_stay : (R : List Record) (r : Record) (s t : ℕ) → s ≤ commit_count R → (w : Writer) → counts (r ∷ R) s t w ≡ counts R s t w
+pub counts_stay : (R : List Record) (r : Record) (s t : ℕ) → s ≤ commit_count R → (w : Writer) → counts (r ∷ R) s t w ≡ counts R s t w
 counts_stay R r s t l (At c) = refl
 counts_stay R (Commit c) s t l (By u) = ap (λ v. eqb u t || (v || is_committed_by R s u)) (and_right (eqb c.txn u) _ (le-ltb (commit_count R) s l))
 counts_stay R _ s t l (By u) = refl
@@ -34,20 +34,20 @@ not_by (By v) t u f e g = f ((let x : v ≡ u = cc in x) ∙ g)
 not_by (At c) t u f e g = absurd (let x : At c ≡ By u = e in cc)
 
 -- an active transaction other than t doesn't count
-active_off : (sh : Shape) (R : List Record) (s t u : ℕ) → AreAllowed sh R → is_active R u ≡ true → (u ≡ t → ⊥) → counts R s t (By u) ≡ false
+pub active_off : (sh : Shape) (R : List Record) (s t u : ℕ) → AreAllowed sh R → is_active R u ≡ true → (u ≡ t → ⊥) → counts R s t (By u) ≡ false
 active_off sh R s t u h on ne = both_off (eqb u t) (is_committed_by R s u) (ne_eqb u t ne) ((known sh R s u h).open' on)
   where
     both_off : (x y : Bool) → x ≡ false → y ≡ false → (x || y) ≡ false
     both_off x y p q = rw (p, q) refl
 
-step_off : (sh : Shape) (R : List Record) (st : Step) (s t : ℕ) → AreAllowed sh R → s ≤ commit_count R → StepFits R st → IsNotBy st.by t → counts R s t st.by ≡ false
+pub step_off : (sh : Shape) (R : List Record) (st : Step) (s t : ℕ) → AreAllowed sh R → s ≤ commit_count R → StepFits R st → IsNotBy st.by t → counts R s t st.by ≡ false
 step_off sh R st s t h l f n = go st.by refl
   where
     go : (w : Writer) → st.by ≡ w → counts R s t w ≡ false
     go (By u) e = active_off sh R s t u h (f.live u e) (λ g. not_by st.by t u n e g)
     go (At m) e = lt-leb m s (let k = (f.kept m e).number in omega (arith, k))
 
-back_by : (ss : List Step) (u : ℕ) (st : Step) → newest_of ss u ≡ Some st → is_by st.by u ≡ true
+pub back_by : (ss : List Step) (u : ℕ) (st : Step) → newest_of ss u ≡ Some st → is_by st.by u ≡ true
 back_by [] u st h = absurd (let x : ◌≡◌ {A = Option Step} None (Some st) = h in cc)
 back_by (x ∷ ss) u st h =
     (elim (is_by x.by u) as (λ v. is_by x.by u ≡ v → cond v (Some x) (newest_of ss u) ≡ Some st → is_by st.by u ≡ true) [
@@ -55,7 +55,7 @@ back_by (x ∷ ss) u st h =
       | false ↦ λ e f. back_by ss u st f
     ]) refl h
 
-by_off : (c : Writer → Bool) (w : Writer) (u : ℕ) → is_by w u ≡ true → c (By u) ≡ false → c w ≡ false
+pub by_off : (c : Writer → Bool) (w : Writer) (u : ℕ) → is_by w u ≡ true → c (By u) ≡ false → c w ≡ false
 by_off c (By v) u e f = ap (λ x. c (By x)) (eqb-true v u e) ∙ f
 by_off c (At m) u e f = absurd (true≢false (sym e))
 

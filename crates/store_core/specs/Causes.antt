@@ -47,7 +47,7 @@ pub record HasCause {D T : Type 0} (meaning : Meaning D) (old new : Held D) (res
   pub answers : (fault : StoreFault) → old.fault ≡ Some fault → IsErrOf result fault
   pub stays : (fault : StoreFault) → old.fault ≡ Some fault → new ≡ old
 
--- a call that adds no record, and leaves the list and what a crash leaves of it
+-- a call that adds no record and leaves the list; it may make more of it stable, and whatever survived a crash goes on surviving it
 pub record HasLooked {D T : Type 0} (meaning : Meaning D) (old new : Held D) (result : Result T StoreFault) : Type 0 where
   pub loan : SameLoan meaning old new
   pub cause : HasCause meaning old new result

@@ -28,6 +28,11 @@ abbrev pub Belongs : Shape → List Record → ℕ → ℕ → ℕ → Bool → 
 Belongs sh R o b born true = IsBornAt sh R o b born
 Belongs sh R o b born false = IsBornAt sh R o b born → ⊥
 
+-- the incarnation of the extent of table o that has block b, where one has it
+abbrev pub BornTold : Shape → List Record → ℕ → ℕ → Option ℕ → Type 0
+BornTold sh R o b None = (born : ℕ) → IsBornAt sh R o b born → ⊥
+BornTold sh R o b (Some born) = IsBornAt sh R o b born
+
 -- ---- the version
 
 -- no version that holds a row has this undo address at p

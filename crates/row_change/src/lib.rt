@@ -32,6 +32,7 @@ mod updating;
 pub use adding::add_change;
 pub use answer::{ChangeFault, Done};
 pub use blocks::locate;
+pub use born::incarnation_of;
 pub use counting::next_number;
 pub use deleting::delete;
 pub use draft::{Content, place_at, three_parts, two_parts};

@@ -21,4 +21,4 @@ returns-in-Ok-clause-sound g c = λ R t i n.
     c.incarnation_in.ensures.sound R c.args.obj (c.in-Ok.ensures.looked.stays_true R t) (search_on g.D.Disk.meaning c.args.store.now c.search_for.new.store _ R c.args.obj c.in-Ok.search c.in-Ok.ensures.looked q.search) (c.in-Ok.ensures.looked.cause.kept n)
 
 pub returns-in-Err-clause-sound : goal.returns-in-Err-clause-sound
-returns-in-Err-clause-sound g c = λ R t i n. c.in-Err.ensures.sound R t i tt n
+returns-in-Err-clause-sound g c = λ R t i n. c.in-Err.ensures.sound R t i n

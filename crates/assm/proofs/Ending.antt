@@ -10,7 +10,8 @@ use Rattle.redo_model.specs.Model.{is_active}
 use Rattle.session_laws.specs.Sessions.{own_of}
 use Rattle.session_laws.proofs.Own.{own_active}
 use Rattle.rollback_laws.specs.Closing.{closed}
-use Rattle.script_text.specs.declared.statement.Statement.{Statement}
+use Rattle.script_text.specs.Script.{Script}
+use Rattle.history_model.specs.declared.history.HistoryItem.{HistoryItem}
 use Rattle.history_model.specs.History.{AreInTime}
 use Rattle.history_model.specs.Legal.{IsLegal}
 use Rattle.history_model.specs.Running.{IsAtEnd}
@@ -23,7 +24,8 @@ use Rattle.store_core.specs.declared.fault.StoreFault.TheVariants as faults
 use Rattle.recovery.specs.FaultOf.{IsFirstByte, IsPageFault}
 use Rattle.session_model.specs.Laws.{NoneActive}
 use Rattle.session_core.specs.Acting.{KeepsLoan}
-use Rattle.session_world.specs.Whole.{HasRunAll, needed_by}
+use Rattle.session_world.specs.Order.{precedes_same, AreFirstTurns, FollowsTurns, turns_whole}
+use Rattle.session_world.specs.Whole.{HasRunScript, needed_by, turns_of}
 use Rattle.session_world.specs.declared.fault.RunFault.{RunFault}
 use Rattle.session_world.specs.declared.fault.RunFault.TheVariants as stops
 use Rattle.assm.specs.Status.{status_of_open}
@@ -56,7 +58,7 @@ module _ {D : Type 0} (meaning : Meaning D) where
       (subst (λ (x : List ℕ). Always meaning since b.disk (λ m image. IsLeft sh x R (needed m) image)) f
       (subst (λ (x : Shape). Always meaning since b.disk (λ m image. IsLeft x (meaning.files b.first).data_bytes R (needed m) image)) s h.each))
 
-  module _ (since : ℕ) (data_bytes : List ℕ) (sh : Shape) (R : List Record) (disk disk' : D) (loan : GName) (loaded : Read D) (a b : Held D) (scripts : List (List Statement)) (old new : Option (List ℕ)) (from : a ≡ with_disk disk loan loaded) (to : b.disk ≡ disk') (begins : Begins meaning since data_bytes sh R disk loaded) (keeps : KeepsLoan meaning a b) where
+  module _ (since : ℕ) (data_bytes : List ℕ) (sh : Shape) (R : List Record) (disk disk' : D) (loan : GName) (loaded : Read D) (a b : Held D) (script : Script) (old new : Option (List ℕ)) (from : a ≡ with_disk disk loan loaded) (to : b.disk ≡ disk') (begins : Begins meaning since data_bytes sh R disk loaded) (keeps : KeepsLoan meaning a b) where
     stands : IsTrue meaning (closed R) a
     stands = subst (IsTrue meaning (closed R)) (sym from) (begins.opened loan).list
 
@@ -69,55 +71,66 @@ module _ {D : Type 0} (meaning : Meaning D) where
     data_is : (meaning.files b.first).data_bytes ≡ data_bytes
     data_is = ap (λ (d : D). (meaning.files d).data_bytes) (keeps.first ∙ ap (λ (s : Held D). s.first) from) ∙ begins.file
 
-    survives_on : (result : Result (Unit {0}) RunFault) → (run : HasRunAll meaning scripts (closed R) a b old new result) → Survives meaning since (needed_by (length R) run.history) run.records b
-    survives_on result run = run.survives since (length R) (subst (Survives meaning since (λ m. length R) (closed R)) (sym from) (begins.survives loan))
+    survives_on : (result : Result (Unit {0}) RunFault) → (run : HasRunScript meaning script (closed R) a b old new result) → Survives meaning since (needed_by (length R) run.ran.run.history) run.ran.run.records b
+    survives_on result run = run.ran.run.survives since (length R) (subst (Survives meaning since (λ m. length R) (closed R)) (sym from) (begins.survives loan))
 
-    abbrev part_of : (result : Result (Unit {0}) RunFault) → HasRunAll meaning scripts (closed R) a b old new result → Ran meaning since data_bytes disk' old new sh R scripts
+    -- the turns that were taken, of a store of this shape
+    turns_are : {A : Type 0} (result : Result A RunFault) (all : List ℕ) (S : List Record) (T : List HistoryItem) → FollowsTurns a.shape script.sessions (closed R) all S T result → FollowsTurns sh script.sessions (closed R) all S T result
+    turns_are result all S T h = subst (λ (s : Shape). FollowsTurns s script.sessions (closed R) all S T result) shape_is h
+
+    first_of : (result : Result (Unit {0}) RunFault) (all : List ℕ) (S : List Record) (T : List HistoryItem) → FollowsTurns sh script.sessions (closed R) all S T result → AreFirstTurns sh script.sessions (closed R) all S T
+    first_of (Ok done) all S T h = record { called = all; first = precedes_same; turns = turns_whole all S T h }
+    first_of (Err fault) all S T h = h
+
+    abbrev part_of : (result : Result (Unit {0}) RunFault) → HasRunScript meaning script (closed R) a b old new result → Ran meaning since data_bytes disk' old new sh R script
     part_of result run = record {
-      records = run.records;
-      history = run.history;
-      legal = subst (λ (s : Shape). IsLegal s scripts (closed R) run.records run.history) shape_is run.legal;
-      in_time = subst (λ (d : D). AreInTime (meaning.clock d) run.history) to run.in_time;
-      took = run.took;
-      survives = left_over since (needed_by (length R) run.history) run.records b disk' sh data_bytes to (keeps.shape ∙ shape_is) data_is (survives_on result run);
+      records = run.ran.run.records;
+      history = run.ran.run.history;
+      legal = subst (λ (s : Shape). IsLegal s script.sessions (closed R) run.ran.run.records run.ran.run.history) shape_is run.ran.run.legal;
+      in_time = subst (λ (d : D). AreInTime (meaning.clock d) run.ran.run.history) to run.ran.run.in_time;
+      rounds = run.rounds;
+      turns = first_of result (turns_of script run.rounds) run.ran.run.records run.ran.run.history (turns_are result (turns_of script run.rounds) run.ran.run.records run.ran.run.history run.ran.turns);
+      took = run.ran.run.took;
+      survives = left_over since (needed_by (length R) run.ran.run.history) run.ran.run.records b disk' sh data_bytes to (keeps.shape ∙ shape_is) data_is (survives_on result run);
     }
 
     -- all records are in each image from now on, where all are stable
-    all_left : (done : Unit {0}) (run : HasRunAll meaning scripts (closed R) a b old new (Ok done)) (moment : ℕ) → moment ≡ meaning.clock b.disk → b.fault ≡ None
+    all_left : (done : Unit {0}) (run : HasRunScript meaning script (closed R) a b old new (Ok done)) (moment : ℕ) → moment ≡ meaning.clock b.disk → b.fault ≡ None
         → ((since : ℕ) (needed more : ℕ → ℕ) (Q : List Record) → IsTrue meaning Q b → b.fault ≡ None → Survives meaning since needed Q b → Rises needed more moment b.log.stable → Survives meaning since more Q b)
-        → (image : Files) → Now meaning disk' image → IsLeft sh data_bytes run.records (length run.records) image
+        → (image : Files) → Now meaning disk' image → IsLeft sh data_bytes run.ran.run.records (length run.ran.run.records) image
     all_left done run moment is unspent rises image crash =
-        let needed : ℕ → ℕ = needed_by (length R) run.history in
-        let more : ℕ → ℕ = raised moment needed (length run.records) in
+        let needed : ℕ → ℕ = needed_by (length R) run.ran.run.history in
+        let more : ℕ → ℕ = raised moment needed (length run.ran.run.records) in
         let goes : Rises needed more moment b.log.stable = record {
-          before = λ m lt. raised_before moment (needed m) (length run.records) m (ltb m moment) refl lt;
-          since = λ m le. subst (λ (n : ℕ). n ≤ b.log.stable) (sym (ap (λ (t : Bool). cond t (needed m) (length run.records)) (le-ltb m moment le))) (omega (arith, run.stable));
+          before = λ m lt. raised_before moment (needed m) (length run.ran.run.records) m (ltb m moment) refl lt;
+          since = λ m le. subst (λ (n : ℕ). n ≤ b.log.stable) (sym (ap (λ (t : Bool). cond t (needed m) (length run.ran.run.records)) (le-ltb m moment le))) (omega (arith, run.ran.run.stable));
         } in
-        let lasts = rises since needed more run.records run.stands unspent (survives_on (Ok done) run) goes in
-        let at : (m : ℕ) → meaning.clock disk' ≡ m → more m ≡ length run.records = λ m e. ap (λ (t : Bool). cond t (needed m) (length run.records)) (le-ltb m moment (omega (arith, is, ap meaning.clock to, e))) in
+        let lasts = rises since needed more run.ran.run.records run.ran.run.stands unspent (survives_on (Ok done) run) goes in
+        let at : (m : ℕ) → meaning.clock disk' ≡ m → more m ≡ length run.ran.run.records = λ m e. ap (λ (t : Bool). cond t (needed m) (length run.ran.run.records)) (le-ltb m moment (omega (arith, is, ap meaning.clock to, e))) in
         let begun : since ≤ meaning.clock disk' = subst (λ (d : D). since ≤ meaning.clock d) to lasts.begun in
-        subst (λ (n : ℕ). IsLeft sh data_bytes run.records n image) (at (meaning.clock disk') refl)
-        (left_over since more run.records b disk' sh data_bytes to (keeps.shape ∙ shape_is) data_is lasts (meaning.clock disk') image begun (omega arith) crash)
+        subst (λ (n : ℕ). IsLeft sh data_bytes run.ran.run.records n image) (at (meaning.clock disk') refl)
+        (left_over since more run.ran.run.records b disk' sh data_bytes to (keeps.shape ∙ shape_is) data_is lasts (meaning.clock disk') image begun (omega arith) crash)
 
-    pub runs_to : (result : Result (Unit {0}) RunFault) → ((R0 : List Record) → IsTrue meaning R0 a → NoneActive R0 → HasRunAll meaning scripts R0 a b old new result) → OnOk result (b.fault ≡ None) → (moment : ℕ) → moment ≡ meaning.clock b.disk
+    pub runs_to : (result : Result (Unit {0}) RunFault) → ((R0 : List Record) → IsTrue meaning R0 a → NoneActive R0 → HasRunScript meaning script R0 a b old new result) → OnOk result (b.fault ≡ None) → (moment : ℕ) → moment ≡ meaning.clock b.disk
         → ((since : ℕ) (needed more : ℕ → ℕ) (Q : List Record) → IsTrue meaning Q b → b.fault ≡ None → Survives meaning since needed Q b → Rises needed more moment b.log.stable → Survives meaning since more Q b)
-        → RunsTo meaning since data_bytes disk' old new sh R scripts result
+        → RunsTo meaning since data_bytes disk' old new sh R script result
     runs_to (Ok done) ran unspent moment is rises =
         let run = ran (closed R) stands no_one in
         record {
           ran = part_of (Ok done) run;
-          printed = run.printed;
-          over = subst (λ (d : D). IsAtEnd sh scripts (closed R) run.records run.history (meaning.clock d)) to (subst (λ (s : Shape). IsAtEnd s scripts (closed R) run.records run.history (meaning.clock b.disk)) shape_is run.over);
+          all = turns_are (Ok done) (turns_of script run.rounds) run.ran.run.records run.ran.run.history run.ran.turns;
+          printed = run.ran.run.printed;
+          over = subst (λ (d : D). IsAtEnd sh script.sessions (closed R) run.ran.run.records run.ran.run.history (meaning.clock d)) to (subst (λ (s : Shape). IsAtEnd s script.sessions (closed R) run.ran.run.records run.ran.run.history (meaning.clock b.disk)) shape_is run.ran.run.over);
           stable = all_left done run moment is unspent rises;
         }
     runs_to (Err stops.WriteFault) ran unspent moment is rises = part_of (Err stops.WriteFault) (ran (closed R) stands no_one)
     runs_to (Err (stops.Store faults.DeviceFault)) ran unspent moment is rises =
         let run = ran (closed R) stands no_one in
-        record { ran = part_of (Err (stops.Store faults.DeviceFault)) run; lines = inl run.printed }
+        record { ran = part_of (Err (stops.Store faults.DeviceFault)) run; lines = inl run.ran.run.printed }
     runs_to (Err (stops.Store faults.NoMemory)) ran unspent moment is rises =
         let run = ran (closed R) stands no_one in
-        record { ran = part_of (Err (stops.Store faults.NoMemory)) run; lines = run.printed }
-    runs_to (Err (stops.Store (faults.BadPage dba))) ran unspent moment is rises = absurd (ran (closed R) stands no_one).sound
+        record { ran = part_of (Err (stops.Store faults.NoMemory)) run; lines = run.ran.run.printed }
+    runs_to (Err (stops.Store (faults.BadPage dba))) ran unspent moment is rises = absurd (ran (closed R) stands no_one).ran.run.sound
 
   -- ---- the status
   -- the byte of a page that is wrong
@@ -130,9 +143,9 @@ module _ {D : Type 0} (meaning : Meaning D) where
   block_byte disk disk' d opening.NoMemory look place byte = absurd place
 
   -- a run that stopped at a fault of the store ends so
-  pub ends_as : (since : ℕ) (data_bytes : List ℕ) (disk disk' : D) (sh : Shape) (R : List Record) (scripts : List (List Statement)) (old new : Option (List ℕ)) (fault : StoreFault) (status : Status) → StopsAs meaning disk disk' fault status → RunsTo meaning since data_bytes disk old new sh R scripts (Err (stops.Store fault)) → EndsAs meaning since data_bytes disk' old new sh R scripts status
-  ends_as since data_bytes disk disk' sh R scripts old new faults.DeviceFault status h ran =
-      subst (λ (s : Status). EndsAs meaning since data_bytes disk' old new sh R scripts s) (sym h.0) (subst (λ (d : D). RanLines meaning since data_bytes d old new sh R scripts) (sym h.1) ran)
-  ends_as since data_bytes disk disk' sh R scripts old new faults.NoMemory status h ran =
-      subst (λ (s : Status). EndsAs meaning since data_bytes disk' old new sh R scripts s) (sym h.0) (subst (λ (d : D). RanLines meaning since data_bytes d old new sh R scripts) (sym h.1) ran)
-  ends_as since data_bytes disk disk' sh R scripts old new (faults.BadPage d) status h ran = absurd ran
+  pub ends_as : (since : ℕ) (data_bytes : List ℕ) (disk disk' : D) (sh : Shape) (R : List Record) (script : Script) (old new : Option (List ℕ)) (fault : StoreFault) (status : Status) → StopsAs meaning disk disk' fault status → RunsTo meaning since data_bytes disk old new sh R script (Err (stops.Store fault)) → EndsAs meaning since data_bytes disk' old new sh R script status
+  ends_as since data_bytes disk disk' sh R script old new faults.DeviceFault status h ran =
+      subst (λ (s : Status). EndsAs meaning since data_bytes disk' old new sh R script s) (sym h.0) (subst (λ (d : D). RanLines meaning since data_bytes d old new sh R script) (sym h.1) ran)
+  ends_as since data_bytes disk disk' sh R script old new faults.NoMemory status h ran =
+      subst (λ (s : Status). EndsAs meaning since data_bytes disk' old new sh R script s) (sym h.0) (subst (λ (d : D). RanLines meaning since data_bytes d old new sh R script) (sym h.1) ran)
+  ends_as since data_bytes disk disk' sh R script old new (faults.BadPage d) status h ran = absurd ran

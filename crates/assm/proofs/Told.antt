@@ -58,7 +58,7 @@ module _ {D : Type 0} (meaning : Meaning D) where
 
   -- what the run of a store tells by its status
   pub run_tells : (disk disk' : D) (old new : Option (List ℕ)) (text : List ℕ) (script : Script) (shape : Shape) (status : Status) → scripts_of BUILT_FORMS text ≡ Ok script → (meaning.told disk → IsRead shape (meaning.files disk)) → (meaning.told disk → meaning.told disk') → IsRunEnd meaning disk' status
-      → ((sh : Shape) (R : List Record) → StartsSound meaning disk sh R → EndsAs meaning (meaning.clock disk) (meaning.files disk).data_bytes disk' old new sh R script.sessions status) → RunTells meaning disk disk' old new status text
+      → ((sh : Shape) (R : List Record) → StartsSound meaning disk sh R → EndsAs meaning (meaning.clock disk) (meaning.files disk).data_bytes disk' old new sh R script status) → RunTells meaning disk disk' old new status text
   run_tells disk disk' old new text script shape the.Done says read told only ends = record { script = script; says = says; shape = shape; read = read; ran = ends }
   run_tells disk disk' old new text script shape the.WriteFault says read told only ends = record { script = script; says = says; shape = shape; read = read; ran = ends }
   run_tells disk disk' old new text script shape the.DeviceFault says read told only ends = inr (record { script = script; says = says; shape = shape; read = read; ran = ends })

@@ -5,7 +5,7 @@ use Rattle.disk_model.specs.Types.{Meaning}
 use Rattle.disk_model.specs.declared.disk.File.TheVariants.{Data}
 use Rattle.redo_model.specs.Records.{Record}
 use Rattle.rollback_laws.specs.Closing.{closed}
-use Rattle.script_text.specs.declared.statement.Statement.{Statement}
+use Rattle.script_text.specs.Script.{Script}
 use Rattle.store_core.specs.Store.{Read}
 use Rattle.store_core.specs.Survives.{Survives}
 use Rattle.store_core.specs.declared.fault.StoreFault.{StoreFault}
@@ -25,21 +25,21 @@ pub record Begins {D : Type 0} (meaning : Meaning D) (since : ℕ) (data_bytes :
   pub survives : Over (Survives meaning since (λ m. length R) (closed R)) disk loaded
   pub file : (meaning.files loaded.first).data_bytes ≡ data_bytes
 
-module _ {D : Type 0} (meaning : Meaning D) (since : ℕ) (data_bytes : List ℕ) (disk' : D) (old new : Option (List ℕ)) (sh : Shape) (R : List Record) (scripts : List (List Statement)) where
+module _ {D : Type 0} (meaning : Meaning D) (since : ℕ) (data_bytes : List ℕ) (disk' : D) (old new : Option (List ℕ)) (sh : Shape) (R : List Record) (script : Script) where
   -- what each answer of a run says of a sound store
   abbrev pub RunsTo : Result (Unit {0}) RunFault → Type 0
-  RunsTo (Ok done) = RanWhole meaning since data_bytes disk' old new sh R scripts
-  RunsTo (Err stops.WriteFault) = Ran meaning since data_bytes disk' old new sh R scripts
-  RunsTo (Err (stops.Store faults.DeviceFault)) = RanLines meaning since data_bytes disk' old new sh R scripts
-  RunsTo (Err (stops.Store faults.NoMemory)) = RanLines meaning since data_bytes disk' old new sh R scripts
+  RunsTo (Ok done) = RanWhole meaning since data_bytes disk' old new sh R script
+  RunsTo (Err stops.WriteFault) = Ran meaning since data_bytes disk' old new sh R script
+  RunsTo (Err (stops.Store faults.DeviceFault)) = RanLines meaning since data_bytes disk' old new sh R script
+  RunsTo (Err (stops.Store faults.NoMemory)) = RanLines meaning since data_bytes disk' old new sh R script
   RunsTo (Err (stops.Store (faults.BadPage dba))) = ⊥
 
   -- the same of its status
   abbrev pub EndsAs : Status → Type 0
-  EndsAs Done = RanWhole meaning since data_bytes disk' old new sh R scripts
-  EndsAs WriteFault = Ran meaning since data_bytes disk' old new sh R scripts
-  EndsAs DeviceFault = RanLines meaning since data_bytes disk' old new sh R scripts
-  EndsAs NoMemory = RanLines meaning since data_bytes disk' old new sh R scripts
+  EndsAs Done = RanWhole meaning since data_bytes disk' old new sh R script
+  EndsAs WriteFault = Ran meaning since data_bytes disk' old new sh R script
+  EndsAs DeviceFault = RanLines meaning since data_bytes disk' old new sh R script
+  EndsAs NoMemory = RanLines meaning since data_bytes disk' old new sh R script
   EndsAs status = ⊥
 
 -- the byte of the data file where a block begins; the device may have failed at it

@@ -15,7 +15,6 @@ use Rattle.store_core.specs.Survives.{IsSound, IsLeft}
 use Rattle.recovery.specs.Refused.{block_at, IsRead, IsRefused, IsLeftActive, IsSoundRefusal, Shows}
 use Rattle.recovery.specs.Opened.{ReopensSince}
 use Rattle.script_text.specs.declared.form.TheConstants.{BUILT_FORMS}
-use Rattle.script_text.specs.declared.statement.Statement.{Statement}
 use Rattle.script_text.specs.declared.why.Why.{Why}
 use Rattle.script_text.specs.Script.{Script}
 use Rattle.script_text.specs.Grammar.{scripts_of}
@@ -23,7 +22,8 @@ use Rattle.history_model.specs.declared.history.HistoryItem.{HistoryItem}
 use Rattle.history_model.specs.History.{AreInTime}
 use Rattle.history_model.specs.Legal.{IsLegal}
 use Rattle.history_model.specs.Running.{IsAtEnd}
-use Rattle.session_world.specs.Whole.{text_of, needed_by, LacksNewest}
+use Rattle.session_world.specs.Order.{AreTurns, AreFirstTurns}
+use Rattle.session_world.specs.Whole.{text_of, needed_by, LacksNewest, turns_of}
 use Rattle.assm.specs.declared.status.Status.{Status}
 use Rattle.assm.specs.declared.status.Status.TheVariants.{Done, BadScript, DeviceFault, NoMemory, BadFile, NotFormatted, ReadFault, WriteFault, ScriptTooLong, AlreadyFormatted}
 use Rattle.script_text.specs.declared.why.ScriptFault.TheVariants as bad
@@ -53,29 +53,33 @@ pub record StartsSound {D : Type 0} (meaning : Meaning D) (disk : D) (sh : Shape
   pub durable : IsDurable meaning disk
   pub sound : IsSound sh R (meaning.files disk)
 
--- Since that moment, on files of this shape with the records R, the sessions of the scripts ran: from R, with what was active in
--- them taken back, their statements made these records and this history, all of it legal. The sink took a first part of its text.
--- A crash at each moment left, or leaves now, a sound store with a first part of the records: all of R, and at each moment at
--- which a commit had been told the records up to that commit. The data file stays.
-pub record Ran {D : Type 0} (meaning : Meaning D) (since : ℕ) (data_bytes : List ℕ) (disk' : D) (old new : Option (List ℕ)) (sh : Shape) (R : List Record) (scripts : List (List Statement)) : Type 0 where
+-- Since that moment, on files of this shape with the records R, the sessions of the script ran: from R, with what was active in
+-- them taken back, their statements made these records and this history, all of it legal, by the first turns of the schedule and of
+-- the rounds behind it. The sink took a first part of its text. A crash at each moment left, or leaves now, a sound store with a
+-- first part of the records: all of R, and at each moment at which a commit had been told the records up to that commit. The data
+-- file stays.
+pub record Ran {D : Type 0} (meaning : Meaning D) (since : ℕ) (data_bytes : List ℕ) (disk' : D) (old new : Option (List ℕ)) (sh : Shape) (R : List Record) (script : Script) : Type 0 where
   pub records : List Record
   pub history : List HistoryItem
-  pub legal : IsLegal sh scripts (closed R) records history
+  pub legal : IsLegal sh script.sessions (closed R) records history
   pub in_time : AreInTime (meaning.clock disk') history
+  pub rounds : ℕ
+  pub turns : AreFirstTurns sh script.sessions (closed R) (turns_of script rounds) records history
   pub took : AppendsPrefix old new (text_of history)
   pub survives : Always meaning since disk' (λ m image. IsLeft sh data_bytes records (needed_by (length R) history m) image)
 
 -- No line was cut. Where memory was wanting, the newest entry may lack all of its lines.
-pub record RanLines {D : Type 0} (meaning : Meaning D) (since : ℕ) (data_bytes : List ℕ) (disk' : D) (old new : Option (List ℕ)) (sh : Shape) (R : List Record) (scripts : List (List Statement)) : Type 0 where
-  pub ran : Ran meaning since data_bytes disk' old new sh R scripts
+pub record RanLines {D : Type 0} (meaning : Meaning D) (since : ℕ) (data_bytes : List ℕ) (disk' : D) (old new : Option (List ℕ)) (sh : Shape) (R : List Record) (script : Script) : Type 0 where
+  pub ran : Ran meaning since data_bytes disk' old new sh R script
   pub lines : Appends old new (text_of ran.history) ⊎ LacksNewest old new ran.history
 
--- All of it ran: each statement has its entry, no transaction is active, the sink took the whole text, and a crash now leaves all
--- records.
-pub record RanWhole {D : Type 0} (meaning : Meaning D) (since : ℕ) (data_bytes : List ℕ) (disk' : D) (old new : Option (List ℕ)) (sh : Shape) (R : List Record) (scripts : List (List Statement)) : Type 0 where
-  pub ran : Ran meaning since data_bytes disk' old new sh R scripts
+-- All of it ran: all these turns were taken, each statement has its entry, no transaction is active, the sink took the whole text,
+-- and a crash now leaves all records.
+pub record RanWhole {D : Type 0} (meaning : Meaning D) (since : ℕ) (data_bytes : List ℕ) (disk' : D) (old new : Option (List ℕ)) (sh : Shape) (R : List Record) (script : Script) : Type 0 where
+  pub ran : Ran meaning since data_bytes disk' old new sh R script
+  pub all : AreTurns sh script.sessions (closed R) (turns_of script ran.rounds) ran.records ran.history
   pub printed : Appends old new (text_of ran.history)
-  pub over : IsAtEnd sh scripts (closed R) ran.records ran.history (meaning.clock disk')
+  pub over : IsAtEnd sh script.sessions (closed R) ran.records ran.history (meaning.clock disk')
   pub stable : (image : Files) → Now meaning disk' image → IsLeft sh data_bytes ran.records (length ran.records) image
 
 module _ {D : Type 0} (meaning : Meaning D) (disk disk' : D) (old new : Option (List ℕ)) where
@@ -95,17 +99,17 @@ module _ {D : Type 0} (meaning : Meaning D) (disk disk' : D) (old new : Option (
     pub reopens : (sh : Shape) (R : List Record) → StartsSound meaning disk sh R → ReopensSince meaning (meaning.clock disk) sh R (meaning.files disk).data_bytes disk'
 
   -- The script is in the grammar. The files read as a store's, and where they were a sound one the run of the script has P.
-  pub record Opened (P : Shape → List Record → List (List Statement) → Type 0) (text : List ℕ) : Type 0 where
+  pub record Opened (P : Shape → List Record → Script → Type 0) (text : List ℕ) : Type 0 where
     pub script : Script
     pub says : scripts_of BUILT_FORMS text ≡ Ok script
     pub shape : Shape
     pub read : meaning.told disk → IsRead shape (meaning.files disk)
-    pub ran : (sh : Shape) (R : List Record) → StartsSound meaning disk sh R → P sh R script.sessions
+    pub ran : (sh : Shape) (R : List Record) → StartsSound meaning disk sh R → P sh R script
 
   -- The script is in the grammar. The files read as a store's but aren't a sound one's: the page that begins here in the data file
   -- isn't what an event needed.
   pub record Breaks (which : File) (offset seen : ℕ) (text : List ℕ) : Type 0 where
-    pub opened : Opened (λ sh R scripts. ⊥) text
+    pub opened : Opened (λ sh R script. ⊥) text
     pub file : which ≡ Data
     pub block : ℕ
     pub begins : offset ≡ block_at block

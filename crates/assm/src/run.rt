@@ -34,7 +34,7 @@ fn run_read<D: Disk, K: Sink>(
     requires unspent { loaded.fault ≡ None }
     requires built { IsScript BUILT_FORMS scripts.now }
     ensures ran { (since : ℕ) (data_bytes : List ℕ) (sh : TheShape) (R : List Record) → Begins D.meaning since data_bytes sh R disk.old loaded
-        → RunsTo D.meaning since data_bytes disk.new (K.written sink.old) (K.written sink.new) sh R scripts.now.sessions result }
+        → RunsTo D.meaning since data_bytes disk.new (K.written sink.old) (K.written sink.new) sh R scripts.now result }
     ensures device_fault { Causes D.meaning disk.old disk.new (IsErrOf result (RunFault.Store faults.DeviceFault)) }
     ensures write_fault { IsErrOf result RunFault.WriteFault → Rose (K.fault_count sink.old) (K.fault_count sink.new) }
     ensures told { D.meaning.told disk.new ↔ D.meaning.told disk.old }
@@ -73,7 +73,7 @@ fn run_opened<D: Disk, K: Sink>(
     requires unspent { loaded.fault ≡ None }
     requires built { IsScript BUILT_FORMS scripts.now }
     ensures ends { (since : ℕ) (data_bytes : List ℕ) (sh : TheShape) (R : List Record) → Begins D.meaning since data_bytes sh R disk.old loaded
-        → EndsAs D.meaning since data_bytes disk.new (K.written sink.old) (K.written sink.new) sh R scripts.now.sessions result }
+        → EndsAs D.meaning since data_bytes disk.new (K.written sink.old) (K.written sink.new) sh R scripts.now result }
     ensures only { IsRunEnd D.meaning disk.new result }
     ensures device_fault { Causes D.meaning disk.old disk.new (result ≡ Status.DeviceFault) }
     ensures write_fault { result ≡ Status.WriteFault → Rose (K.fault_count sink.old) (K.fault_count sink.new) }

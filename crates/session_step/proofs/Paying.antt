@@ -1,5 +1,5 @@
 -- What a session owes, settled before its next statement.
-use Rattle.std.proofs.Common.{◌≡◌, ℕ, true, false, List, [], Option, refl, sym, ◌∙◌, ap, ap₂, subst, le_trans, inl, inr}
+use Rattle.std.proofs.Common.{◌≡◌, ℕ, true, false, List, [], ◌∷◌, Option, refl, sym, ◌∙◌, ap, ap₂, subst, le_trans, inl, inr}
 use Rattle.std.specs.Prelude.{Ok, Err, Result, IfErr, OnOk, OnErr}
 use Rattle.seg_words.specs.Types.{Shape}
 use Rattle.disk_model.specs.Crash.{Meaning}
@@ -7,6 +7,8 @@ use Rattle.redo_model.specs.Records.{Record}
 use Rattle.redo_model.specs.Model.{IsLawful}
 use Rattle.session_laws.specs.Sessions.{own_of}
 use Rattle.script_text.specs.declared.statement.Statement.{Statement}
+use Rattle.history_model.specs.declared.history.HistoryItem.{HistoryItem}
+use Rattle.history_model.specs.History.{IsSession}
 use Rattle.history_model.specs.Legal.{IsLegal}
 use Rattle.session_model.specs.Sessions.{Session}
 use Rattle.session_model.specs.Worlds.{IsWorld}
@@ -18,17 +20,23 @@ use Rattle.store_core.specs.declared.fault.StoreFault.{StoreFault}
 use Rattle.session_core.specs.declared.dues.Dues.{Dues}
 use Rattle.session_core.specs.Acting.{HasCalled}
 use Rattle.session_core.specs.Located.{KeepsDoing}
-use Rattle.session_core.specs.Owing.{HasTidied, HasSettledFirst, AreDropped}
+use Rattle.session_core.specs.Owing.{HasTidied, HasSettledFirst, AreDropped, SettlesFirst}
 use Rattle.session_core.specs.Scanned.{IsShaped}
 use Rattle.session_core.proofs.Located.{settlings_keep_places}
 use Rattle.session_step.specs.declared.session.Turn.{Turn}
 use Rattle.session_step.specs.declared.session.Turn.TheVariants as turns
 use Rattle.session_step.specs.Bindings.{row_of}
 use Rattle.session_step.specs.Stages.{Stage, IsSameBut, StandsAt, session_at}
+use Rattle.session_step.specs.Events.{SettlesOne, TurnMakes}
 use Rattle.session_step.specs.Stepping.{HasRun, HasPaidStep, HasStepped, Owes, unowed}
 use Rattle.session_step.proofs.Running.{always, later_in_time}
 use Rattle.session_step.proofs.Steps.{settled_to, world_as, same_next, not_more}
 use Rattle.session_step.proofs.Unmarked.{tidied_own}
+
+-- the first of the blocks that are left was settled
+settles_first : (sh : Shape) (scripts : List (List Statement)) (w : ℕ) (Q R : List Record) (T : List HistoryItem) (es : List (ℕ × ℕ)) → IsSession scripts w → SettlesFirst sh Q R es true → SettlesOne sh scripts w Q T R T
+settles_first sh scripts w Q R T [] session h = absurd h
+settles_first sh scripts w Q R T (e ∷ es) session h = record { session = session; obj = e.1; dba = e.0; needs = h.0; settles = h.1; same = refl }
 
 module _ {D : Type 0} (meaning : Meaning D) (scripts : List (List Statement)) (R0 R : List Record) (sessions : ℕ → Session) (w : ℕ) (a : Stage D) (s : Held D) (d : Dues) where
   -- ---- a block was settled, or the settling failed
@@ -68,10 +76,11 @@ module _ {D : Type 0} (meaning : Meaning D) (scripts : List (List Statement)) (R
   step_paid_one t noted shape h = record {
     run = settled_run (Ok tt) t.tidies shape h tt;
     turn = inl (record { same = record { history = refl; scan = refl; labels = refl; session = refl }; dropped = t.dropped; noted = noted; first = t.first });
+    makes = inl (settles_first a.store.shape scripts w R t.tidies.records a.history d.owed h.session t.first);
   }
 
   pub step_unpaid : (f : StoreFault) → HasSettledFirst meaning R a.dues.owed d.owed a.store s (Err f) → s.shape ≡ a.store.shape → StandsAt meaning scripts R0 R sessions w a → HasStepped meaning scripts R0 R sessions w a (settled_to a s d) (Err f)
-  step_unpaid f t shape h = record { run = settled_run (Err f) t.tidies shape h t.sound; turn = tt }
+  step_unpaid f t shape h = record { run = settled_run (Err f) t.tidies shape h t.sound; turn = tt; makes = inl (refl, t.tidies.tidied) }
 
   -- ---- no block called for anything
 
@@ -124,6 +133,7 @@ module _ {D : Type 0} (meaning : Meaning D) (scripts : List (List Statement)) (R
   step_after b (Ok turns.Made) t noted shape h = record {
     run = run_after b (Ok tt) t shape h.run;
     turn = inr (record { more = h.turn.0; paid = paid_all t; owes = subst (λ (e : Dues). Owes e b.dues b.session.own) (none_owed t noted) h.turn.1 });
+    makes = subst (λ (z : Shape). TurnMakes z scripts w R a.history h.run.records b.history (Ok turns.Made)) shape h.makes;
   }
   step_after b (Ok turns.Ended) t noted shape h = record {
     run = run_after b (Ok tt) t shape h.run;
@@ -134,8 +144,13 @@ module _ {D : Type 0} (meaning : Meaning D) (scripts : List (List Statement)) (R
       owed = ap (λ (e : Dues). e.owed) h.turn.2 ∙ t.first.0;
       records = h.turn.3;
     };
+    makes = h.makes;
   }
-  step_after b (Err f) t noted shape h = record { run = run_after b (Err f) t shape h.run; turn = tt }
+  step_after b (Err f) t noted shape h = record {
+    run = run_after b (Err f) t shape h.run;
+    turn = tt;
+    makes = subst (λ (z : Shape). TurnMakes z scripts w R a.history h.run.records b.history (Err f)) shape h.makes;
+  }
 
 -- the store was called, and another answer is given
 pub called_plain : {D A T : Type 0} (meaning : Meaning D) (a b : Held D) (x : A) (y : T) → HasCalled {T = A} meaning a b (Ok x) → HasCalled {T = T} meaning a b (Ok y)

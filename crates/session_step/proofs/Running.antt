@@ -52,7 +52,8 @@ use Rattle.session_step.specs.Bindings.{row_of, AreBoundOf, AreBoundTurned, inse
 use Rattle.session_step.specs.Stages.{Stage, IsHeld, IsMidway, IsSameBut, session_at}
 use Rattle.session_step.specs.Turning.{IsBuilt, IsTurnOf, HasTurned}
 use Rattle.session_step.specs.Telling.{entry_ordinal, Finishes, IsAcked, IsEntryOf, OfNewest}
-use Rattle.session_step.specs.Stepping.{HasRun, Owes}
+use Rattle.session_step.specs.Events.{Closes, closes_none, closes_one}
+use Rattle.session_step.specs.Stepping.{HasRunOn, Owes}
 use Rattle.session_step.proofs.Unmarked.{IsBuiltOne, session_unmarked}
 
 -- a statement by its place in its session's script
@@ -129,25 +130,29 @@ finished_in_time w k n before now (turned.Over outcome kept) own s t T U l f h =
 -- ---- an event that fails
 
 pub run_fails : {D : Type 0} (meaning : Meaning D) (scripts : List (List Statement)) (script : List Statement) (R0 R : List Record) (sessions : ℕ → Session) (w : ℕ) (task : Task) (a b : Stage D) (r : Result Acted StoreFault) (f : StoreFault) → b.store.shape ≡ a.store.shape → b.history ≡ a.history → b.session ≡ a.session
-    → IsSoundFault f → script_of scripts w ≡ script → IsMidway meaning scripts R0 R sessions w task a → HasTurned meaning (now_of scripts R w task) (slice_get script a.session.told) b.scan a.store b.store r → HasRun meaning scripts R0 R sessions w a b (Err f)
+    → IsSoundFault f → script_of scripts w ≡ script → IsMidway meaning scripts R0 R sessions w task a → HasTurned meaning (now_of scripts R w task) (slice_get script a.session.told) b.scan a.store b.store r → HasRunOn meaning scripts R0 R sessions w a b (Err f)
 run_fails meaning scripts script R0 R sessions w task a b r f shape alike same sound e m h = record {
-  records = h.acted.records;
-  stands = h.acted.stands;
-  stable = h.acted.stable;
-  survives = h.acted.survives;
-  time = h.acted.time;
-  legal = subst (IsLegal a.store.shape scripts R0 h.acted.records) (sym alike) (events_fail a.store.shape scripts R0 R h.acted.records a.history sessions (row_of a.labels) w task (session_at a.scan a.session) lawful m.midway acts);
-  world = tt;
-  own = tt;
-  shaped = h.acted.placed;
-  held = tt;
-  located = tt;
-  others = λ v ne. events_leave_transactions a.store.shape scripts a.history w R h.acted.records v lawful.allowed (λ z. ne (sym z)) goes;
-  others_located = λ v d ne k. others_keep_places a.store.shape scripts a.history w R h.acted.records v d lawful.allowed (λ z. ne (sym z)) goes k;
-  in_time = λ z. subst (AreInTime (meaning.clock b.store.disk)) (sym alike) (later_in_time (meaning.clock a.store.disk) (meaning.clock b.store.disk) a.history h.acted.time z);
-  entry = λ y. (let k : suc a.session.told ≡ a.session.told = sym y ∙ ap (λ (z : Told). z.told) same in absurd (omega (arith, k)));
-  untold = ap (λ (z : Told). z.told) same;
-  sound = sound;
+  run = record {
+    records = h.acted.records;
+    stands = h.acted.stands;
+    stable = h.acted.stable;
+    survives = h.acted.survives;
+    time = h.acted.time;
+    legal = subst (IsLegal a.store.shape scripts R0 h.acted.records) (sym alike) (events_fail a.store.shape scripts R0 R h.acted.records a.history sessions (row_of a.labels) w task (session_at a.scan a.session) lawful m.midway acts);
+    world = tt;
+    own = tt;
+    shaped = h.acted.placed;
+    held = tt;
+    located = tt;
+    others = λ v ne. events_leave_transactions a.store.shape scripts a.history w R h.acted.records v lawful.allowed (λ z. ne (sym z)) goes;
+    others_located = λ v d ne k. others_keep_places a.store.shape scripts a.history w R h.acted.records v d lawful.allowed (λ z. ne (sym z)) goes k;
+    in_time = λ z. subst (AreInTime (meaning.clock b.store.disk)) (sym alike) (later_in_time (meaning.clock a.store.disk) (meaning.clock b.store.disk) a.history h.acted.time z);
+    entry = λ y. (let k : suc a.session.told ≡ a.session.told = sym y ∙ ap (λ (z : Told). z.told) same in absurd (omega (arith, k)));
+    untold = ap (λ (z : Told). z.told) same;
+    sound = sound;
+  };
+  goes = goes;
+  closes = subst (Closes h.acted.records w a.history) (sym alike) closes_none;
 }
   where
     lawful : IsLawful a.store.shape h.acted.records
@@ -249,27 +254,36 @@ finished_entry : {D : Type 0} (meaning : Meaning D) (R : List Record) (b : Held 
 finished_entry meaning R b w k (turned.On d) own s t T U e c f y = let z : suc s.told ≡ s.told = sym y ∙ ap (λ (z : Told). z.told) f.0 in absurd (omega (arith, z))
 finished_entry meaning R b w k (turned.Over o kept) own s t T U e c f y = subst (OfNewest (IsEntryOf meaning w R b)) (sym f.1) (record { session = refl; ends = e; moment = refl; acked = acked_of R b o e c })
 
+closes_told : (w k n moment : ℕ) (v : Turned) (own : Option ℕ) (s t : Told) (T U : List HistoryItem) (R : List Record) → n ≡ length R → Finishes w k n moment (record { turned = v; own = own }) s t T U → Closes R w T U
+closes_told w k n moment (turned.On d) own s t T U R l f = subst (Closes R w T) (sym f.1) closes_none
+closes_told w k n moment (turned.Over outcome kept) own s t T U R l f =
+    subst (Closes R w T) (sym f.1) (closes_one (record { session = w; ordinal = entry_ordinal k s.told; begins = s.begins; ends = n; moment = moment; outcome = outcome }) kept refl l)
+
 pub run_done : {D : Type 0} (meaning : Meaning D) (scripts : List (List Statement)) (script : List Statement) (R0 R : List Record) (sessions : ℕ → Session) (w : ℕ) (task : Task) (a b : Stage D) (z : Acted) → b.store.shape ≡ a.store.shape → script_of scripts w ≡ script → AllBuilt script → IsMidway meaning scripts R0 R sessions w task a
     → HasTurned meaning (now_of scripts R w task) (slice_get script a.session.told) b.scan a.store b.store (Ok z) → AreBoundTurned (slice_get script a.session.told) z.turned a.labels b.labels
-    → Finishes w (length script) b.store.log.count (meaning.clock b.store.disk) z a.session b.session a.history b.history → HasRun meaning scripts R0 R sessions w a b (Ok tt)
+    → Finishes w (length script) b.store.log.count (meaning.clock b.store.disk) z a.session b.session a.history b.history → HasRunOn meaning scripts R0 R sessions w a b (Ok tt)
 run_done meaning scripts script R0 R sessions w task a b z shape e built m h bound f = record {
-  records = h.acted.records;
-  stands = h.acted.stands;
-  stable = h.acted.stable;
-  survives = h.acted.survives;
-  time = h.acted.time;
-  legal = (world (next_sessions w sessions (session_at b.scan b.session)) (next_is scripts w sessions (session_at b.scan b.session))).legal;
-  world = world;
-  own = h.acted.turns.own ∙ sym (finished_own w (length script) b.store.log.count (meaning.clock b.store.disk) z.turned z.own a.session b.session a.history b.history f);
-  shaped = h.acted.placed;
-  held = finished_held b.scan w (length script) b.store.log.count (meaning.clock b.store.disk) z.turned z.own a.session b.session a.history b.history h.kept f;
-  located = finished_located a.store.shape h.acted.records w (length script) b.store.log.count (meaning.clock b.store.disk) z.turned z.own a.session b.session a.history b.history h.acted.turns.kept f;
-  others = λ v ne. events_leave_transactions a.store.shape scripts a.history w R h.acted.records v lawful.allowed (λ y. ne (sym y)) goes;
-  others_located = λ v d ne k. others_keep_places a.store.shape scripts a.history w R h.acted.records v d lawful.allowed (λ y. ne (sym y)) goes k;
-  in_time = finished_in_time w (length script) b.store.log.count (meaning.clock a.store.disk) (meaning.clock b.store.disk) z.turned z.own a.session b.session a.history b.history h.acted.time f;
-  entry = finished_entry meaning h.acted.records b.store w (length script) z.turned z.own a.session b.session a.history b.history count h.acked f;
-  untold = tt;
-  sound = tt;
+  run = record {
+    records = h.acted.records;
+    stands = h.acted.stands;
+    stable = h.acted.stable;
+    survives = h.acted.survives;
+    time = h.acted.time;
+    legal = (world (next_sessions w sessions (session_at b.scan b.session)) (next_is scripts w sessions (session_at b.scan b.session))).legal;
+    world = world;
+    own = h.acted.turns.own ∙ sym (finished_own w (length script) b.store.log.count (meaning.clock b.store.disk) z.turned z.own a.session b.session a.history b.history f);
+    shaped = h.acted.placed;
+    held = finished_held b.scan w (length script) b.store.log.count (meaning.clock b.store.disk) z.turned z.own a.session b.session a.history b.history h.kept f;
+    located = finished_located a.store.shape h.acted.records w (length script) b.store.log.count (meaning.clock b.store.disk) z.turned z.own a.session b.session a.history b.history h.acted.turns.kept f;
+    others = λ v ne. events_leave_transactions a.store.shape scripts a.history w R h.acted.records v lawful.allowed (λ y. ne (sym y)) goes;
+    others_located = λ v d ne k. others_keep_places a.store.shape scripts a.history w R h.acted.records v d lawful.allowed (λ y. ne (sym y)) goes k;
+    in_time = finished_in_time w (length script) b.store.log.count (meaning.clock a.store.disk) (meaning.clock b.store.disk) z.turned z.own a.session b.session a.history b.history h.acted.time f;
+    entry = finished_entry meaning h.acted.records b.store w (length script) z.turned z.own a.session b.session a.history b.history count h.acked f;
+    untold = tt;
+    sound = tt;
+  };
+  goes = goes;
+  closes = closes_told w (length script) b.store.log.count (meaning.clock b.store.disk) z.turned z.own a.session b.session a.history b.history h.acted.records count f;
 }
   where
     place : slice_get script a.session.told ≡ statement_of scripts w a.session.told
@@ -304,7 +318,7 @@ finishes_as w k n n' m m' a s t T U e f h = subst (λ (z : ℕ). Finishes w k n'
 
 pub run_told : {D : Type 0} (meaning : Meaning D) (scripts : List (List Statement)) (script : List Statement) (R0 R : List Record) (sessions : ℕ → Session) (w : ℕ) (task : Task) (a b : Stage D) (z : Acted) (r : Result (Unit {0}) StoreFault) → b.store.shape ≡ a.store.shape → script_of scripts w ≡ script → AllBuilt script
     → IsMidway meaning scripts R0 R sessions w task a → HasTurned meaning (now_of scripts R w task) (slice_get script a.session.told) b.scan a.store b.store (Ok z) → OnOk r (AreBoundTurned (slice_get script a.session.told) z.turned a.labels b.labels)
-    → OnOk r (Finishes w (length script) b.store.log.count (meaning.clock b.store.disk) z a.session b.session a.history b.history) → OnErr r ((b.session ≡ a.session) × (b.history ≡ a.history)) → IfErr r (λ f. f ≡ NoMemory) → HasRun meaning scripts R0 R sessions w a b r
+    → OnOk r (Finishes w (length script) b.store.log.count (meaning.clock b.store.disk) z a.session b.session a.history b.history) → OnErr r ((b.session ≡ a.session) × (b.history ≡ a.history)) → IfErr r (λ f. f ≡ NoMemory) → HasRunOn meaning scripts R0 R sessions w a b r
 run_told meaning scripts script R0 R sessions w task a b z (Ok u) shape e built m h bound f same cause = run_done meaning scripts script R0 R sessions w task a b z shape e built m h bound f
 run_told meaning scripts script R0 R sessions w task a b z (Err y) shape e built m h bound f same cause = run_fails meaning scripts script R0 R sessions w task a b (Ok z) y shape same.1 same.0 (subst IsSoundFault (sym cause) tt) e m h
 

@@ -9,10 +9,11 @@ use Rattle.session_laws.specs.Sessions.{own_of}
 use Rattle.script_text.specs.declared.statement.Statement.{Statement}
 use Rattle.history_model.specs.declared.history.HistoryItem.{HistoryItem}
 use Rattle.history_model.specs.declared.history.HistoryItem.TheVariants as item
-use Rattle.history_model.specs.History.{IsSession, Task, task_of, script_of, AreInTime}
+use Rattle.history_model.specs.History.{IsSession, Task, task_of, script_of, under_way, AreInTime}
 use Rattle.history_laws.specs.Telling.{start_now}
-use Rattle.session_model.specs.Doings.{Waiting, ShrinksOn}
-use Rattle.session_model.specs.Sessions.{Session, Fits, HasEnded}
+use Rattle.session_model.specs.Done.{tidy_none}
+use Rattle.session_model.specs.Doings.{Doing, Waiting, ShrinksOn}
+use Rattle.session_model.specs.Sessions.{Session, WayFits, Fits, HasEnded}
 use Rattle.session_model.specs.Worlds.{IsWorld, Midway}
 use Rattle.session_model.specs.Laws.{started}
 use Rattle.session_model.proofs.Events.{statements_start, statements_go_on, sessions_end, ended_sessions}
@@ -31,7 +32,8 @@ use Rattle.session_step.specs.declared.session.Turn.TheVariants as turns
 use Rattle.session_step.specs.Bindings.{row_of}
 use Rattle.session_step.specs.Stages.{Stage, IsHeld, IsMidway, IsSameBut, StandsAt, session_at}
 use Rattle.session_step.specs.Telling.{Begins, Ends, Grows, GoesOnWith, IsDone, IsStarted, begins_none, ends_none}
-use Rattle.session_step.specs.Stepping.{HasRun, HasPaidStep, Owes}
+use Rattle.session_step.specs.Events.{Opens, opens_new, opens_on}
+use Rattle.session_step.specs.Stepping.{HasRun, HasRunOn, HasPaidStep, Owes}
 
 -- ---- stages
 
@@ -107,7 +109,7 @@ module _ {D : Type 0} (meaning : Meaning D) (scripts : List (List Statement)) (R
   }
 
   ended_same : StandsAt meaning scripts R0 R sessions w a → HasEnded scripts R a.history w → HasPaidStep meaning scripts R0 R sessions w a a (Ok turns.Ended)
-  ended_same h ended = record { run = unchanged_run h; turn = (ended, record { history = refl; scan = refl; labels = refl; session = refl }, refl, refl) }
+  ended_same h ended = record { run = unchanged_run h; turn = (ended, record { history = refl; scan = refl; labels = refl; session = refl }, refl, refl); makes = (refl, refl) }
 
   failed_same : StandsAt meaning scripts R0 R sessions w a → HasPaidStep meaning scripts R0 R sessions w a a (Err NoMemory)
   failed_same h = record {
@@ -131,6 +133,7 @@ module _ {D : Type 0} (meaning : Meaning D) (scripts : List (List Statement)) (R
       sound = tt;
     };
     turn = tt;
+    makes = inl (refl, tidy_none);
   }
 
   as_begun : (U : List HistoryItem) (u : Told) (r : Result Turn StoreFault) → U ≡ a.history → u ≡ a.session → HasPaidStep meaning scripts R0 R sessions w a a r → HasPaidStep meaning scripts R0 R sessions w a (begun a U u) r
@@ -174,13 +177,18 @@ module _ {D : Type 0} (meaning : Meaning D) (scripts : List (List Statement)) (R
     pub task : Task
     pub midway : IsMidway meaning scripts R0 R sessions w task (begun a U u)
     pub not_ended : HasEnded scripts R a.history w → ⊥
+    pub opens : Opens R a.history w U
+
+  -- nothing is under way while it waits
+  idle_first : a.session.doing ≡ told.Waiting → StandsAt meaning scripts R0 R sessions w a → under_way a.history w ≡ None
+  idle_first waits h = subst (λ (d : Doing). WayFits a.store.shape scripts R a.history w (sessions w) d) (doing_is h ∙ waiting_at a.scan a.session.doing waits) (h.world.fit w h.session).way
 
   started_midst : (script : List Statement) (n : ℕ) (U : List HistoryItem) (u : Told) → n ≡ length R → script_of scripts w ≡ script → StandsAt meaning scripts R0 R sessions w a → IsStarted w (length script) n a.session u a.history U → InMidst U u
   started_midst script n U u l e h b = record {
     task = task_of (start_now R w) a.history;
     midway = record {
       stands = h.stands;
-      midway = subst (λ (Z : List HistoryItem). Midway a.store.shape scripts R0 R Z sessions (row_of a.labels) w (task_of (start_now R w) a.history) (session_at a.scan u)) (sym (b.tells ∙ ap (λ (k : ℕ). item.Started (record { session = w; begins = k }) ∷ a.history) l))
+      midway = subst (λ (Z : List HistoryItem). Midway a.store.shape scripts R0 R Z sessions (row_of a.labels) w (task_of (start_now R w) a.history) (session_at a.scan u)) (sym tells)
           (subst (Midway a.store.shape scripts R0 R (item.Started (start_now R w) ∷ a.history) sessions (row_of a.labels) w (task_of (start_now R w) a.history)) (sym is)
           (statements_start a.store.shape scripts R0 R a.history sessions (row_of a.labels) w h.session (doing_is h ∙ waiting_at a.scan a.session.doing b.waits) more h.world));
       unshrunk = h.unshrunk;
@@ -190,8 +198,12 @@ module _ {D : Type 0} (meaning : Meaning D) (scripts : List (List Statement)) (R
       located = subst (λ (z : Told). KeepsDoing a.store.shape R z.own z.doing) (sym b.now) tt;
     };
     not_ended = not_ended_first script e b.more h;
+    opens = subst (Opens R a.history w) (sym tells) (opens_new (idle_first b.waits h));
   }
     where
+      tells : U ≡ item.Started (start_now R w) ∷ a.history
+      tells = b.tells ∙ ap (λ (k : ℕ). item.Started (record { session = w; begins = k }) ∷ a.history) l
+
       more : length (script_of scripts w) ≤ (sessions w).told → own_of R w ≡ None → ⊥
       more k none = b.more (subst (λ (m : ℕ). length script ≤ m) (told_at h) (subst (λ (z : List Statement). length z ≤ (sessions w).told) e k)) (sym h.own ∙ none)
 
@@ -217,6 +229,7 @@ module _ {D : Type 0} (meaning : Meaning D) (scripts : List (List Statement)) (R
           located = subst (λ (z : Told). KeepsDoing a.store.shape R z.own z.doing) (sym b.now) h.located;
         };
         not_ended = not_ended_busy b.busy h;
+        opens = subst (Opens R a.history w) (sym b.tells) (opens_on y.task y.midway.now);
       }
 
   pub begun_midst : (script : List Statement) (n : ℕ) (U : List HistoryItem) (u : Told) → n ≡ length R → script_of scripts w ≡ script → StandsAt meaning scripts R0 R sessions w a → (a.session.doing ≢ told.Waiting → GoesOnWith a.session u a.history U)
@@ -234,7 +247,7 @@ module _ {D : Type 0} (meaning : Meaning D) (scripts : List (List Statement)) (R
   ]
 
   -- counted from before the start
-  ran_from : (U : List HistoryItem) (u : Told) (b : Stage D) (r : Result (Unit {0}) StoreFault) → u.told ≡ a.session.told → (AreInTime (meaning.clock a.store.disk) a.history → AreInTime (meaning.clock a.store.disk) U) → HasRun meaning scripts R0 R sessions w (begun a U u) b r
+  abbrev ran_from : (U : List HistoryItem) (u : Told) (b : Stage D) (r : Result (Unit {0}) StoreFault) → u.told ≡ a.session.told → (AreInTime (meaning.clock a.store.disk) a.history → AreInTime (meaning.clock a.store.disk) U) → HasRun meaning scripts R0 R sessions w (begun a U u) b r
       → HasRun meaning scripts R0 R sessions w a b r
   ran_from U u b r same k h = record {
     records = h.records;
@@ -260,13 +273,21 @@ module _ {D : Type 0} (meaning : Meaning D) (scripts : List (List Statement)) (R
       still (Ok z) e = tt
       still (Err f) e = e ∙ same
 
-  pub step_ran : (k n : ℕ) (U : List HistoryItem) (u : Told) (b : Stage D) → u.told ≡ a.session.told → (a.session.doing ≢ told.Waiting → GoesOnWith a.session u a.history U) → (a.session.doing ≡ told.Waiting → IsStarted w k n a.session u a.history U) → (HasEnded scripts R a.history w → ⊥)
-      → Owes a.dues b.dues b.session.own → HasRun meaning scripts R0 R sessions w (begun a U u) b (Ok tt) → HasPaidStep meaning scripts R0 R sessions w a b (Ok turns.Made)
-  step_ran k n U u b same on first not_ended owes h = record { run = ran_from U u b (Ok tt) same (begun_in_time k n (meaning.clock a.store.disk) U u on first) h; turn = (not_ended, owes) }
+  pub step_ran : (k n : ℕ) (U : List HistoryItem) (u : Told) (b : Stage D) → u.told ≡ a.session.told → (a.session.doing ≢ told.Waiting → GoesOnWith a.session u a.history U) → (a.session.doing ≡ told.Waiting → IsStarted w k n a.session u a.history U) → InMidst U u
+      → Owes a.dues b.dues b.session.own → HasRunOn meaning scripts R0 R sessions w (begun a U u) b (Ok tt) → HasPaidStep meaning scripts R0 R sessions w a b (Ok turns.Made)
+  step_ran k n U u b same on first mid owes h = record {
+    run = ran_from U u b (Ok tt) same (begun_in_time k n (meaning.clock a.store.disk) U u on first) h.run;
+    turn = (mid.not_ended, owes);
+    makes = inr (record { session = mid.midway.midway.session; begun = U; opens = mid.opens; goes = h.goes; closes = h.closes });
+  }
 
-  pub step_ran_not : (k n : ℕ) (U : List HistoryItem) (u : Told) (b : Stage D) (f : StoreFault) → u.told ≡ a.session.told → (a.session.doing ≢ told.Waiting → GoesOnWith a.session u a.history U) → (a.session.doing ≡ told.Waiting → IsStarted w k n a.session u a.history U)
-      → HasRun meaning scripts R0 R sessions w (begun a U u) b (Err f) → HasPaidStep meaning scripts R0 R sessions w a b (Err f)
-  step_ran_not k n U u b f same on first h = record { run = ran_from U u b (Err f) same (begun_in_time k n (meaning.clock a.store.disk) U u on first) h; turn = tt }
+  pub step_ran_not : (k n : ℕ) (U : List HistoryItem) (u : Told) (b : Stage D) (f : StoreFault) → u.told ≡ a.session.told → (a.session.doing ≢ told.Waiting → GoesOnWith a.session u a.history U) → (a.session.doing ≡ told.Waiting → IsStarted w k n a.session u a.history U) → InMidst U u
+      → HasRunOn meaning scripts R0 R sessions w (begun a U u) b (Err f) → HasPaidStep meaning scripts R0 R sessions w a b (Err f)
+  step_ran_not k n U u b f same on first mid h = record {
+    run = ran_from U u b (Err f) same (begun_in_time k n (meaning.clock a.store.disk) U u on first) h.run;
+    turn = tt;
+    makes = inr (record { session = mid.midway.midway.session; begun = U; opens = mid.opens; goes = h.goes; closes = h.closes });
+  }
 
 -- ---- what is told
 

@@ -2,5 +2,6 @@ pub mod Bindings
 pub mod Stages
 pub mod Turning
 pub mod Telling
+pub mod Events
 pub mod Stepping
 pub mod Laws

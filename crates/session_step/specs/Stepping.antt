@@ -6,6 +6,7 @@ use Rattle.session_laws.specs.Sessions.{own_of}
 use Rattle.script_text.specs.declared.statement.Statement.{Statement}
 use Rattle.history_model.specs.History.{AreInTime}
 use Rattle.history_model.specs.Legal.{IsLegal}
+use Rattle.history_laws.specs.Events.{Goes}
 use Rattle.session_model.specs.Sessions.{Session, HasEnded}
 use Rattle.session_model.specs.Worlds.{IsWorld}
 use Rattle.store_core.specs.Store.{IsTrue}
@@ -24,6 +25,7 @@ use Rattle.session_step.specs.declared.session.Turn.TheVariants as turns
 use Rattle.session_step.specs.Bindings.{row_of}
 use Rattle.session_step.specs.Stages.{Stage, session_at, IsHeld, IsSameBut}
 use Rattle.session_step.specs.Telling.{IsEntryOf, OfNewest}
+use Rattle.session_step.specs.Events.{Closes, TurnMakes}
 
 -- ---- the records, the history and the sessions
 
@@ -47,6 +49,13 @@ pub record HasRun {D : Type 0} (meaning : Meaning D) (scripts : List (List State
   pub entry : b.session.told ≡ suc a.session.told → OfNewest (IsEntryOf meaning who records b.store) b.history
   pub untold : OnErr result (b.session.told ≡ a.session.told)
   pub sound : IfErr result IsSoundFault
+
+-- The same of an event whose statement is under way as it begins: its session added these records, and then perhaps its entry was
+-- told.
+pub record HasRunOn {D : Type 0} (meaning : Meaning D) (scripts : List (List Statement)) (R0 R : List Record) (sessions : ℕ → Session) (who : ℕ) (a b : Stage D) (result : Result (Unit {0}) StoreFault) : Type 0 where
+  pub run : HasRun meaning scripts R0 R sessions who a b result
+  pub goes : Goes a.store.shape scripts a.history who R run.records
+  pub closes : Closes run.records who a.history b.history
 
 -- ---- what is owed
 
@@ -103,11 +112,13 @@ abbrev pub done_part : Result Turn StoreFault → Result (Unit {0}) StoreFault
 done_part (Ok turn) = Ok tt
 done_part (Err fault) = Err fault
 
--- Of a session in a run: at Made an event was made; at Ended the session had ended and owed nothing.
+-- Of a session in a run: at Made it made an event; at Ended the session had ended and owed nothing.
 pub record HasStepped {D : Type 0} (meaning : Meaning D) (scripts : List (List Statement)) (R0 R : List Record) (sessions : ℕ → Session) (who : ℕ) (a b : Stage D) (result : Result Turn StoreFault) : Type 0 where
   pub run : HasRun meaning scripts R0 R sessions who a b (done_part result)
   pub turn : IfOk result (TurnIs scripts R run.records who a b)
+  pub makes : TurnMakes a.store.shape scripts who R a.history run.records b.history result
 
 pub record HasPaidStep {D : Type 0} (meaning : Meaning D) (scripts : List (List Statement)) (R0 R : List Record) (sessions : ℕ → Session) (who : ℕ) (a b : Stage D) (result : Result Turn StoreFault) : Type 0 where
   pub run : HasRun meaning scripts R0 R sessions who a b (done_part result)
   pub turn : IfOk result (PaidTurnIs scripts R run.records who a b)
+  pub makes : TurnMakes a.store.shape scripts who R a.history run.records b.history result

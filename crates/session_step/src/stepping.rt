@@ -14,7 +14,7 @@ ghost use Rattle.session_core.specs.Dues.{noted_after};
 ghost use Rattle.session_step.specs.Bindings.{AreBoundTurned};
 ghost use Rattle.session_step.specs.Telling.{Ends, Finishes, Grows};
 ghost use Rattle.session_step.specs.Stages.{IsMidway, StandsAt, stage};
-ghost use Rattle.session_step.specs.Stepping.{HasPaidStep, HasRun, HasStepped, Owes};
+ghost use Rattle.session_step.specs.Stepping.{HasPaidStep, HasRunOn, HasStepped, Owes};
 
 use crate::acting::act_next;
 use crate::binding::bind_turned;
@@ -127,7 +127,7 @@ fn run_statement<D: Disk>(
     requires built { (i : ℕ) (st : TheStatement) → slice_get script.now i ≡ Some st → IsBuilt st }
     requires short { length script.now < 2 ^ 32 - 1 }
     requires few { session.old.told ≤ length script.now }
-    ensures ran { (scripts : List (List TheStatement)) (R0 R : List Record) (sessions : ℕ → TheSession) (task : Task) → script_of scripts who ≡ script.now → IsMidway D.meaning scripts R0 R sessions who task (stage store.old history.old (place who scans.old) labels.old dues.old session.old) → HasRun D.meaning scripts R0 R sessions who (stage store.old history.old (place who scans.old) labels.old dues.old session.old) (stage store.new history.new (place who scans.new) labels.new dues.new session.new) result }
+    ensures ran { (scripts : List (List TheStatement)) (R0 R : List Record) (sessions : ℕ → TheSession) (task : Task) → script_of scripts who ≡ script.now → IsMidway D.meaning scripts R0 R sessions who task (stage store.old history.old (place who scans.old) labels.old dues.old session.old) → HasRunOn D.meaning scripts R0 R sessions who (stage store.old history.old (place who scans.old) labels.old dues.old session.old) (stage store.new history.new (place who scans.new) labels.new dues.new session.new) result }
     ensures owes { OnOk result (Owes dues.old dues.new session.new.own) }
     ensures called { HasCalled D.meaning store.old store.new result }
     ensures others { (v : ℕ) → 1 ≤ v → v ≢ who → place v scans.new ≡ place v scans.old }

@@ -9,6 +9,8 @@ use Rattle.disk_model.specs.Crash.{Meaning}
 use Rattle.redo_model.specs.Records.{Record}
 use Rattle.session_laws.specs.Sessions.{own_of}
 use Rattle.script_text.specs.declared.statement.Statement.{Statement}
+use Rattle.script_text.specs.declared.statement.Turns.{Turns}
+use Rattle.script_text.specs.Script.{Script}
 use Rattle.history_model.specs.declared.history.HistoryItem.{HistoryItem}
 use Rattle.history_model.specs.History.{IsSession, AreInTime}
 use Rattle.session_model.specs.Sessions.{Session}
@@ -28,11 +30,13 @@ use Rattle.session_step.specs.Stages.{session_at, IsHeld}
 use Rattle.session_world.specs.declared.events.Run.{Run}
 use Rattle.session_world.specs.declared.fault.RunFault.{RunFault}
 use Rattle.session_world.specs.declared.fault.RunFault.TheVariants as stops
-use Rattle.session_world.specs.Whole.{text_of, needed_by, HasRunAll}
+use Rattle.session_world.specs.Order.{after_schedule, after_rounds, AreTurns, turns_none, turns_whole}
+use Rattle.session_world.specs.Whole.{text_of, needed_by, HasRunTurns, HasRunScript}
 use Rattle.session_world.specs.Seats.{unstarted, told_at, seen_in}
 use Rattle.session_world.specs.Between.{IsFresh, IsRunAt, IsSoFar, IsIdle}
 use Rattle.session_world.specs.Rounds.{HasComeToEnd}
 use Rattle.session_world.proofs.Taken.{printed_took}
+use Rattle.session_world.proofs.Ordered.{schedule_precedes}
 
 seen_fresh : (count : ℕ) (run : Run) → IsFresh count run → (w : ℕ) → seen_in run.seats.items run.scans w ≡ fresh w
 seen_fresh count run h w = ap (λ (z : Told). session_at (place w run.scans) z) (h.idle w) ∙ ap (λ (p : Option OpenScan). session_at p unstarted) (h.closed w)
@@ -59,41 +63,58 @@ begun_at meaning scripts R0 s run t none h = record {
   in_time = subst (λ (T : List HistoryItem). AreInTime (meaning.clock s.disk) T) (sym h.untold) tt;
 }
 
-pub run_begins : {D : Type 0} (meaning : Meaning D) (scripts : List (List Statement)) (R0 : List Record) (s : Held D) (before : Option (List ℕ)) (run : Run) → IsTrue meaning R0 s → NoneActive R0 → IsFresh (length scripts) run → IsSoFar meaning scripts R0 R0 s s before before run
+pub run_begins : {D : Type 0} (meaning : Meaning D) (scripts : List (List Statement)) (R0 : List Record) (s : Held D) (before : Option (List ℕ)) (run : Run) → IsTrue meaning R0 s → NoneActive R0 → IsFresh (length scripts) run → IsSoFar meaning scripts R0 R0 [] s s before before run
 run_begins meaning scripts R0 s before run t none h = record {
   at = begun_at meaning scripts R0 s run t none h;
   shape = refl;
+  turns = subst (λ (T : List HistoryItem). AreTurns s.shape scripts R0 [] R0 T) (sym h.untold) turns_none;
   took = subst (λ (T : List HistoryItem). Appends before before (text_of T)) (sym h.untold) (appends_none before);
   survives = λ since found k. subst (λ (T : List HistoryItem). Survives meaning since (needed_by found T) R0 s) (sym h.untold) k;
   time = le_refl (meaning.clock s.disk);
 }
 
 -- a run that didn't begin, for want of memory
-pub never_begun : {D : Type 0} (meaning : Meaning D) (scripts : List (List Statement)) (R0 : List Record) (s : Held D) (before : Option (List ℕ)) → IsTrue meaning R0 s → NoneActive R0 → HasRunAll meaning scripts R0 s s before before (Err (stops.Store NoMemory))
-never_begun meaning scripts R0 s before t none = record {
-  records = R0;
-  history = [];
-  stands = t;
-  legal = (worlds_begin s.shape scripts R0 t.lawful none).legal;
-  in_time = tt;
-  took = printed_took (Err (stops.Store NoMemory)) before before [] (inl (appends_none before));
-  printed = inl (appends_none before);
-  over = tt;
-  stable = tt;
-  survives = λ since found k. k;
-  time = le_refl (meaning.clock s.disk);
-  sound = tt;
+pub never_begun : {D : Type 0} (meaning : Meaning D) (script : Script) (R0 : List Record) (s : Held D) (before : Option (List ℕ)) → IsTrue meaning R0 s → NoneActive R0 → HasRunScript meaning script R0 s s before before (Err (stops.Store NoMemory))
+never_begun meaning script R0 s before t none = record {
+  rounds = 0;
+  ran = record {
+    run = record {
+      records = R0;
+      history = [];
+      stands = t;
+      legal = (worlds_begin s.shape script.sessions R0 t.lawful none).legal;
+      in_time = tt;
+      took = printed_took (Err (stops.Store NoMemory)) before before [] (inl (appends_none before));
+      printed = inl (appends_none before);
+      over = tt;
+      stable = tt;
+      survives = λ since found k. k;
+      time = le_refl (meaning.clock s.disk);
+      sound = tt;
+    };
+    turns = record { called = []; first = schedule_precedes script.schedule []; turns = turns_whole [] R0 [] turns_none };
+  };
 }
 
-module _ {D : Type 0} (meaning : Meaning D) (ss sessions : List (List Statement)) (same : ss ≡ sessions) (R0 : List Record) (s mid new : Held D) (before after : Option (List ℕ)) (run last : Run) (t : IsTrue meaning R0 s) (none : NoneActive R0) (fresh : IsFresh (length sessions) run) where
-  so_far : IsSoFar meaning ss R0 R0 s s before before run
+module _ {D : Type 0} (meaning : Meaning D) (script : Script) (ss : List (List Statement)) (ts : List Turns) (same : ss ≡ script.sessions) (order : ts ≡ script.schedule) (R0 : List Record) (s mid new : Held D) (before after : Option (List ℕ)) (run last : Run) (t : IsTrue meaning R0 s) (none : NoneActive R0) (fresh : IsFresh (length script.sessions) run) where
+  so_far : IsSoFar meaning ss R0 R0 [] s s before before run
   so_far = run_begins meaning ss R0 s before run t none (subst (λ (n : ℕ). IsFresh n run) (ap (λ (z : List (List Statement)). length z) (sym same)) fresh)
 
+  -- these turns, told by the script
+  as_script : (k : ℕ) (r : Result (Unit {0}) RunFault) → HasRunTurns meaning ss R0 (after_rounds (length ss) k (after_schedule ts [])) s new before after r → HasRunScript meaning script R0 s new before after r
+  as_script k r h = record {
+    rounds = k;
+    ran = subst (λ (z : List (List Statement)). HasRunTurns meaning z R0 (after_rounds (length z) k (after_schedule script.schedule [])) s new before after r) same
+        (subst (λ (z : List Turns). HasRunTurns meaning ss R0 (after_rounds (length ss) k (after_schedule z [])) s new before after r) order h);
+  }
+
   -- a run that came to its end, and was closed
-  pub run_whole : (r : Result (Unit {0}) RunFault) → ((Q0 Q : List Record) (first : Held D) (b : Option (List ℕ)) → IsSoFar meaning ss Q0 Q first s b before run → HasComeToEnd meaning ss Q0 first mid b after last (Ok tt))
-      → ((scripts : List (List Statement)) (Q0 : List Record) (first : Held D) (b a : Option (List ℕ)) (u : Run) → IsIdle meaning scripts Q0 first mid b a u → HasRunAll meaning scripts Q0 first new b a r) → HasRunAll meaning sessions R0 s new before after r
-  run_whole r comes closed = subst (λ (z : List (List Statement)). HasRunAll meaning z R0 s new before after r) same (closed ss R0 s before after last (comes R0 R0 s before so_far))
+  pub run_whole : (r : Result (Unit {0}) RunFault) → ((Q0 Q : List Record) (called : List ℕ) (first : Held D) (b : Option (List ℕ)) → IsSoFar meaning ss Q0 Q called first s b before run → HasComeToEnd meaning ss Q0 (after_schedule ts called) first mid b after last (Ok tt))
+      → ((scripts : List (List Statement)) (Q0 : List Record) (called : List ℕ) (first : Held D) (b a : Option (List ℕ)) (u : Run) → IsIdle meaning scripts Q0 called first mid b a u → HasRunTurns meaning scripts Q0 called first new b a r) → HasRunScript meaning script R0 s new before after r
+  run_whole r comes closed =
+      let rest = comes R0 R0 [] s before so_far in
+      as_script rest.rounds r (closed ss R0 (after_rounds (length ss) rest.rounds (after_schedule ts [])) s before after last rest.idle)
 
   -- or that stopped before
-  pub run_part : (f : RunFault) → ((Q0 Q : List Record) (first : Held D) (b : Option (List ℕ)) → IsSoFar meaning ss Q0 Q first s b before run → HasComeToEnd meaning ss Q0 first new b after last (Err f)) → HasRunAll meaning sessions R0 s new before after (Err f)
-  run_part f comes = subst (λ (z : List (List Statement)). HasRunAll meaning z R0 s new before after (Err f)) same (comes R0 R0 s before so_far)
+  pub run_part : (f : RunFault) → ((Q0 Q : List Record) (called : List ℕ) (first : Held D) (b : Option (List ℕ)) → IsSoFar meaning ss Q0 Q called first s b before run → HasComeToEnd meaning ss Q0 (after_schedule ts called) first new b after last (Err f)) → HasRunScript meaning script R0 s new before after (Err f)
+  run_part f comes = let stop = comes R0 R0 [] s before so_far in as_script stop.rounds (Err f) stop.stopped

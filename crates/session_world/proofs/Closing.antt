@@ -24,7 +24,8 @@ use Rattle.store_core.specs.declared.fault.StoreFault.{StoreFault}
 use Rattle.store_core.specs.declared.fault.StoreFault.TheVariants.{DeviceFault}
 use Rattle.session_world.specs.declared.fault.RunFault.TheVariants as stops
 use Rattle.session_world.specs.declared.events.Run.{Run}
-use Rattle.session_world.specs.Whole.{needed_by, HasRunAll}
+use Rattle.session_world.specs.Order.{precedes_same, turns_whole}
+use Rattle.session_world.specs.Whole.{needed_by, HasRunTurns}
 use Rattle.session_world.specs.Seats.{seen_in}
 use Rattle.session_world.specs.Between.{IsSoFar, IsIdle}
 use Rattle.session_world.proofs.Taken.{printed_before, printed_took}
@@ -43,9 +44,9 @@ idle_all sh scripts R0 R T legal ended w (Some task) e = (ended w (ways_are_know
 all_over : (sh : Shape) (scripts : List (List Statement)) (R0 R : List Record) (T : List HistoryItem) → IsLegal sh scripts R0 R T → ((w : ℕ) → IsSession scripts w → HasEnded scripts R T w) → IsOver scripts T
 all_over sh scripts R0 R T legal ended = record { told = λ w session. (ended w session).all_told; idle = λ w. idle_all sh scripts R0 R T legal ended w (under_way T w) refl }
 
-module _ {D : Type 0} (meaning : Meaning D) (scripts : List (List Statement)) (R0 : List Record) (first old new : Held D) (before after : Option (List ℕ)) (run : Run) where
+module _ {D : Type 0} (meaning : Meaning D) (scripts : List (List Statement)) (R0 : List Record) (called : List ℕ) (first old new : Held D) (before after : Option (List ℕ)) (run : Run) where
   -- each session has ended, and all records were made stable
-  pub run_closes : IsIdle meaning scripts R0 first old before after run → HasLooked {T = Unit {0}} meaning old new (Ok tt) → ((R : List Record) → IsTrue meaning R old → new.log.stable ≡ length R) → HasRunAll meaning scripts R0 first new before after (Ok tt)
+  pub run_closes : IsIdle meaning scripts R0 called first old before after run → HasLooked {T = Unit {0}} meaning old new (Ok tt) → ((R : List Record) → IsTrue meaning R old → new.log.stable ≡ length R) → HasRunTurns meaning scripts R0 called first new before after (Ok tt)
   run_closes h looked stable =
       let so = h.so_far in
       let R = h.records in
@@ -53,41 +54,47 @@ module _ {D : Type 0} (meaning : Meaning D) (scripts : List (List Statement)) (R
       let later = looked.loan.time R so.at.stands.list in
       let in_time = time_later (meaning.clock old.disk) (meaning.clock new.disk) run.history later so.at.in_time in
       record {
-        records = R;
-        history = run.history;
-        stands = looked.stays_true R so.at.stands;
-        legal = world.legal;
-        in_time = in_time;
-        took = printed_took (Ok tt) before after run.history so.took;
-        printed = so.took;
-        over = runs_end first.shape scripts R0 R run.history (meaning.clock new.disk) (worlds_run first.shape scripts R0 R run.history (seen_in run.seats.items run.scans) (row_of run.labels) (meaning.clock new.disk) world in_time)
-            (all_over first.shape scripts R0 R run.history world.legal h.ended) (λ w session. (h.ended w session).closed);
-        stable = stable R so.at.stands;
-        survives = λ since found k. looked.survives since (needed_by found run.history) R so.at.stands (so.survives since found k);
-        time = le_trans so.time later;
-        sound = tt;
+        run = record {
+          records = R;
+          history = run.history;
+          stands = looked.stays_true R so.at.stands;
+          legal = world.legal;
+          in_time = in_time;
+          took = printed_took (Ok tt) before after run.history so.took;
+          printed = so.took;
+          over = runs_end first.shape scripts R0 R run.history (meaning.clock new.disk) (worlds_run first.shape scripts R0 R run.history (seen_in run.seats.items run.scans) (row_of run.labels) (meaning.clock new.disk) world in_time)
+              (all_over first.shape scripts R0 R run.history world.legal h.ended) (λ w session. (h.ended w session).closed);
+          stable = stable R so.at.stands;
+          survives = λ since found k. looked.survives since (needed_by found run.history) R so.at.stands (so.survives since found k);
+          time = le_trans so.time later;
+          sound = tt;
+        };
+        turns = so.turns;
       }
 
   -- or the disk failed
-  pub run_fails : (f : StoreFault) → IsSoundFault f → IsIdle meaning scripts R0 first old before after run → HasLooked {T = Unit {0}} meaning old new (Err f) → HasRunAll meaning scripts R0 first new before after (Err (stops.Store f))
+  pub run_fails : (f : StoreFault) → IsSoundFault f → IsIdle meaning scripts R0 called first old before after run → HasLooked {T = Unit {0}} meaning old new (Err f) → HasRunTurns meaning scripts R0 called first new before after (Err (stops.Store f))
   run_fails f sound h looked =
       let so = h.so_far in
       let R = h.records in
       let later = looked.loan.time R so.at.stands.list in
       let printed = printed_before f before after run.history so.took in
       record {
-        records = R;
-        history = run.history;
-        stands = looked.stays_true R so.at.stands;
-        legal = subst (λ (sh : Shape). IsLegal sh scripts R0 R run.history) so.shape so.at.world.legal;
-        in_time = time_later (meaning.clock old.disk) (meaning.clock new.disk) run.history later so.at.in_time;
-        took = printed_took (Err (stops.Store f)) before after run.history printed;
-        printed = printed;
-        over = tt;
-        stable = tt;
-        survives = λ since found k. looked.survives since (needed_by found run.history) R so.at.stands (so.survives since found k);
-        time = le_trans so.time later;
-        sound = sound;
+        run = record {
+          records = R;
+          history = run.history;
+          stands = looked.stays_true R so.at.stands;
+          legal = subst (λ (sh : Shape). IsLegal sh scripts R0 R run.history) so.shape so.at.world.legal;
+          in_time = time_later (meaning.clock old.disk) (meaning.clock new.disk) run.history later so.at.in_time;
+          took = printed_took (Err (stops.Store f)) before after run.history printed;
+          printed = printed;
+          over = tt;
+          stable = tt;
+          survives = λ since found k. looked.survives since (needed_by found run.history) R so.at.stands (so.survives since found k);
+          time = le_trans so.time later;
+          sound = sound;
+        };
+        turns = record { called = called; first = precedes_same; turns = turns_whole called R run.history so.turns };
       }
 
 -- the disk's fault alone

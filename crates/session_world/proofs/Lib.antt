@@ -1,6 +1,7 @@
 pub mod Taken
 pub mod Needed
 pub mod Items
+pub mod Ordered
 pub mod Serving
 pub mod Runnable
 pub mod Seating

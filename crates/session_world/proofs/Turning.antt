@@ -11,6 +11,7 @@ use Rattle.history_model.specs.declared.history.HistoryItem.{HistoryItem}
 use Rattle.history_model.specs.History.{IsSession}
 use Rattle.session_model.specs.Doings.{ShrinksOn}
 use Rattle.session_model.specs.Sessions.{Session, HasEnded}
+use Rattle.session_model.specs.Done.{tidy_none}
 use Rattle.session_model.specs.Worlds.{IsWorld}
 use Rattle.store_core.specs.Store.{Held, IsTrue}
 use Rattle.store_core.specs.Causes.{IsSoundFault}
@@ -154,6 +155,7 @@ module _ {D : Type 0} (meaning : Meaning D) (scripts : List (List Statement)) (R
     survives = h.run.survives;
     time = h.run.time;
     turns = turns_of r h;
+    makes = h.makes;
     sound = sound_of r h.run.sound;
   }
 
@@ -173,6 +175,7 @@ unmoved meaning scripts R0 R who s run none at = record {
   survives = λ since needed h. h;
   time = le_refl (meaning.clock s.disk);
   turns = (record { at = at; same = refl; ended = λ w. absurd (none w) }, refl);
+  makes = (refl, refl);
   sound = tt;
 }
 
@@ -190,5 +193,6 @@ failed_before meaning scripts R0 R who s run f sound at = record {
   survives = λ since needed h. h;
   time = le_refl (meaning.clock s.disk);
   turns = tt;
+  makes = inl (refl, tidy_none);
   sound = sound;
 }

@@ -1,3 +1,4 @@
+pub mod Order
 pub mod Whole
 pub mod Telling
 pub mod Scripts

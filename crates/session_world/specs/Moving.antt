@@ -13,6 +13,7 @@ use Rattle.store_core.specs.declared.fault.StoreFault.{StoreFault}
 use Rattle.session_step.specs.declared.session.Turn.{Turn}
 use Rattle.session_step.specs.declared.session.Turn.TheVariants as turns
 use Rattle.session_step.specs.Telling.{Grows, IsEntryOf, OfNewest}
+use Rattle.session_step.specs.Events.{TurnMakes}
 use Rattle.session_world.specs.declared.events.Run.{Run}
 use Rattle.session_world.specs.Seats.{told_at}
 use Rattle.session_world.specs.Between.{IsRunAt}
@@ -42,4 +43,5 @@ pub record HasMoved {D : Type 0} (meaning : Meaning D) (scripts : List (List Sta
   pub survives : (since : ℕ) (needed : ℕ → ℕ) → Survives meaning since needed R old → Survives meaning since needed records new
   pub time : meaning.clock old.disk ≤ meaning.clock new.disk
   pub turns : IfOk result (Turns meaning scripts R0 R records who new was run)
+  pub makes : TurnMakes old.shape scripts who R was.history records run.history result
   pub sound : IfErr result IsSoundFault

@@ -5,6 +5,7 @@ use Rattle.disk_model.specs.Crash.{Meaning}
 use Rattle.redo_model.specs.Records.{Record}
 use Rattle.text_port.specs.Whole.{AppendsPrefix}
 use Rattle.script_text.specs.declared.statement.Statement.{Statement}
+use Rattle.script_text.specs.Script.{Script}
 use Rattle.history_text.specs.declared.outcome.Outcome.{Outcome}
 use Rattle.history_text.specs.declared.outcome.Outcome.TheVariants as told
 use Rattle.history_text.specs.Lines.{entry_text}
@@ -19,6 +20,7 @@ use Rattle.store_core.specs.Causes.{IsSoundFault}
 use Rattle.store_core.specs.declared.fault.StoreFault.TheVariants as faults
 use Rattle.session_world.specs.declared.fault.RunFault.{RunFault}
 use Rattle.session_world.specs.declared.fault.RunFault.TheVariants as stops
+use Rattle.session_world.specs.Order.{after_schedule, after_rounds, FollowsTurns}
 
 -- ---- lines
 
@@ -79,3 +81,17 @@ pub record HasRunAll {D : Type 0} (meaning : Meaning D) (scripts : List (List St
   pub survives : (since found : ℕ) → Survives meaning since (λ m. found) R0 old → Survives meaning since (needed_by found history) records new
   pub time : meaning.clock old.disk ≤ meaning.clock new.disk
   pub sound : IfErr result IsSoundStop
+
+-- and they did so by these turns
+pub record HasRunTurns {D : Type 0} (meaning : Meaning D) (scripts : List (List Statement)) (R0 : List Record) (all : List ℕ) (old new : Held D) (before after : Option (List ℕ)) (result : Result (Unit {0}) RunFault) : Type 0 where
+  pub run : HasRunAll meaning scripts R0 old new before after result
+  pub turns : FollowsTurns old.shape scripts R0 all run.records run.history result
+
+-- whose turns a script takes: those of its schedule, and then so many rounds of all its sessions
+abbrev pub turns_of : Script → ℕ → List ℕ
+turns_of script rounds = after_rounds (length script.sessions) rounds (after_schedule script.schedule [])
+
+-- A whole script: at Ok all these turns were taken, and else the first ones.
+pub record HasRunScript {D : Type 0} (meaning : Meaning D) (script : Script) (R0 : List Record) (old new : Held D) (before after : Option (List ℕ)) (result : Result (Unit {0}) RunFault) : Type 0 where
+  pub rounds : ℕ
+  pub ran : HasRunTurns meaning script.sessions R0 (turns_of script rounds) old new before after result

@@ -185,7 +185,7 @@ pub fn step_run<D: Disk, K: Sink>(
 ) -> Result<Turn, RunFault>
     requires unspent { store.old.fault ≡ None }
     requires runnable { AreScripts scripts.now }
-    ensures turns { (R0 R : List Record) (first : Held D) (before : Option (List ℕ)) → IsSoFar D.meaning scripts.now R0 R first store.old before (K.written sink.old) run.old → TakesTurn D.meaning scripts.now R0 R who first store.new before (K.written sink.new) run.old run.new result }
+    ensures turns { (R0 R : List Record) (called : List ℕ) (first : Held D) (before : Option (List ℕ)) → IsSoFar D.meaning scripts.now R0 R called first store.old before (K.written sink.old) run.old → TakesTurn D.meaning scripts.now R0 R called who first store.new before (K.written sink.new) run.old run.new result }
     ensures served { HasServed D.meaning store.old store.new (K.fault_count sink.old) (K.fault_count sink.new) result }
 {
     let before = run.history.len();

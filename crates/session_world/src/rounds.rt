@@ -4,6 +4,7 @@ ghost use Rattle.redo_model.specs.Records.{Record};
 ghost use Rattle.store_core.specs.Store.{Held};
 ghost use Rattle.session_world.specs.Scripts.{AreScripts};
 ghost use Rattle.session_world.specs.Calling.{HasServed};
+ghost use Rattle.session_world.specs.Order.{after_item, after_schedule};
 ghost use Rattle.session_world.specs.Between.{GoesOn, IsSoFar};
 ghost use Rattle.session_world.specs.Rounds.{HasComeToEnd, HasGoneRound, HasTurned};
 
@@ -28,7 +29,7 @@ fn take_turn<D: Disk, K: Sink>(
 ) -> Result<bool, RunFault>
     requires unspent { store.old.fault ≡ None }
     requires runnable { AreScripts scripts.now }
-    ensures turned { (R0 R : List Record) (first : Held D) (before : Option (List ℕ)) → IsSoFar D.meaning scripts.now R0 R first store.old before (K.written sink.old) run.old → HasTurned D.meaning scripts.now R0 R who first store.new before (K.written sink.new) run.old run.new result }
+    ensures turned { (R0 R : List Record) (called : List ℕ) (first : Held D) (before : Option (List ℕ)) → IsSoFar D.meaning scripts.now R0 R called first store.old before (K.written sink.old) run.old → HasTurned D.meaning scripts.now R0 R called who first store.new before (K.written sink.new) run.old run.new result }
     ensures served { HasServed D.meaning store.old store.new (K.fault_count sink.old) (K.fault_count sink.new) result }
 {
     match step_run(alloc, store, run, scripts, who, None, sink) {
@@ -38,7 +39,7 @@ fn take_turn<D: Disk, K: Sink>(
     }
 }
 
-/// So many turns of a session, or fewer where it ends.
+/// So many turns of a session. Where it has ended the others are passed over.
 fn take_turns<D: Disk, K: Sink>(
     alloc: Global,
     store: &mut Store<D>,
@@ -49,7 +50,7 @@ fn take_turns<D: Disk, K: Sink>(
 ) -> Result<(), RunFault>
     requires unspent { store.old.fault ≡ None }
     requires runnable { AreScripts scripts.now }
-    ensures goes { (R0 R : List Record) (first : Held D) (before : Option (List ℕ)) → IsSoFar D.meaning scripts.now R0 R first store.old before (K.written sink.old) run.old → GoesOn D.meaning scripts.now R0 first store.new before (K.written sink.new) run.new result }
+    ensures goes { (R0 R : List Record) (called : List ℕ) (first : Held D) (before : Option (List ℕ)) → IsSoFar D.meaning scripts.now R0 R called first store.old before (K.written sink.old) run.old → GoesOn D.meaning scripts.now R0 (after_item turns.now.who turns.now.times called) first store.new before (K.written sink.new) run.new result }
     ensures served { HasServed D.meaning store.old store.new (K.fault_count sink.old) (K.fault_count sink.new) result }
 {
     for taken in 0..turns.times {
@@ -74,7 +75,7 @@ pub fn follow_schedule<D: Disk, K: Sink>(
 ) -> Result<(), RunFault>
     requires unspent { store.old.fault ≡ None }
     requires runnable { AreScripts scripts.now }
-    ensures goes { (R0 R : List Record) (first : Held D) (before : Option (List ℕ)) → IsSoFar D.meaning scripts.now R0 R first store.old before (K.written sink.old) run.old → GoesOn D.meaning scripts.now R0 first store.new before (K.written sink.new) run.new result }
+    ensures goes { (R0 R : List Record) (called : List ℕ) (first : Held D) (before : Option (List ℕ)) → IsSoFar D.meaning scripts.now R0 R called first store.old before (K.written sink.old) run.old → GoesOn D.meaning scripts.now R0 (after_schedule schedule.now called) first store.new before (K.written sink.new) run.new result }
     ensures served { HasServed D.meaning store.old store.new (K.fault_count sink.old) (K.fault_count sink.new) result }
 {
     for turns in schedule {
@@ -96,7 +97,7 @@ fn go_round<D: Disk, K: Sink>(
 ) -> Result<bool, RunFault>
     requires unspent { store.old.fault ≡ None }
     requires runnable { AreScripts scripts.now }
-    ensures goes { (R0 R : List Record) (first : Held D) (before : Option (List ℕ)) → IsSoFar D.meaning scripts.now R0 R first store.old before (K.written sink.old) run.old → HasGoneRound D.meaning scripts.now R0 first store.new before (K.written sink.new) run.new result }
+    ensures goes { (R0 R : List Record) (called : List ℕ) (first : Held D) (before : Option (List ℕ)) → IsSoFar D.meaning scripts.now R0 R called first store.old before (K.written sink.old) run.old → HasGoneRound D.meaning scripts.now R0 called first store.new before (K.written sink.new) run.new result }
     ensures served { HasServed D.meaning store.old store.new (K.fault_count sink.old) (K.fault_count sink.new) result }
 {
     let mut made = false;
@@ -119,7 +120,7 @@ pub fn go_to_end<D: Disk, K: Sink>(
 ) -> Result<(), RunFault>
     requires unspent { store.old.fault ≡ None }
     requires runnable { AreScripts scripts.now }
-    ensures comes { (R0 R : List Record) (first : Held D) (before : Option (List ℕ)) → IsSoFar D.meaning scripts.now R0 R first store.old before (K.written sink.old) run.old → HasComeToEnd D.meaning scripts.now R0 first store.new before (K.written sink.new) run.new result }
+    ensures comes { (R0 R : List Record) (called : List ℕ) (first : Held D) (before : Option (List ℕ)) → IsSoFar D.meaning scripts.now R0 R called first store.old before (K.written sink.old) run.old → HasComeToEnd D.meaning scripts.now R0 called first store.new before (K.written sink.new) run.new result }
     ensures served { HasServed D.meaning store.old store.new (K.fault_count sink.old) (K.fault_count sink.new) result }
 {
     for round in 0..u64::MAX {

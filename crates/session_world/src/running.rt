@@ -10,7 +10,8 @@ ghost use Rattle.store_core.specs.declared.fault.StoreFault.TheVariants as fault
 ghost use Rattle.session_model.specs.Laws.{NoneActive};
 ghost use Rattle.session_core.specs.Acting.{KeepsLoan};
 ghost use Rattle.session_world.specs.declared.events.Run.{Run as TheRun};
-ghost use Rattle.session_world.specs.Whole.{HasRunAll};
+ghost use Rattle.session_world.specs.Order.{after_schedule};
+ghost use Rattle.session_world.specs.Whole.{HasRunScript, HasRunTurns};
 ghost use Rattle.session_world.specs.Scripts.{AreScripts};
 ghost use Rattle.session_world.specs.Calling.{HasServed};
 ghost use Rattle.session_world.specs.Between.{IsFresh, IsIdle, IsSoFar};
@@ -37,7 +38,7 @@ fn run_sessions<D: Disk, K: Sink>(
 ) -> Result<(), RunFault>
     requires unspent { store.old.fault ≡ None }
     requires runnable { AreScripts scripts.now }
-    ensures comes { (R0 R : List Record) (first : Held D) (before : Option (List ℕ)) → IsSoFar D.meaning scripts.now R0 R first store.old before (K.written sink.old) run.old → HasComeToEnd D.meaning scripts.now R0 first store.new before (K.written sink.new) run.new result }
+    ensures comes { (R0 R : List Record) (called : List ℕ) (first : Held D) (before : Option (List ℕ)) → IsSoFar D.meaning scripts.now R0 R called first store.old before (K.written sink.old) run.old → HasComeToEnd D.meaning scripts.now R0 (after_schedule schedule.now called) first store.new before (K.written sink.new) run.new result }
     ensures served { HasServed D.meaning store.old store.new (K.fault_count sink.old) (K.fault_count sink.new) result }
 {
     match follow_schedule(alloc, store, run, scripts, schedule, sink) {
@@ -49,7 +50,7 @@ fn run_sessions<D: Disk, K: Sink>(
 /// Makes all records stable, as a run has come to its end.
 fn close_run<D: Disk>(store: &mut Store<D>) -> Result<(), RunFault>
     requires unspent { store.old.fault ≡ None }
-    ensures closed { (scripts : List (List TheStatement)) (R0 : List Record) (first : Held D) (before after : Option (List ℕ)) (run : TheRun) → IsIdle D.meaning scripts R0 first store.old before after run → HasRunAll D.meaning scripts R0 first store.new before after result }
+    ensures closed { (scripts : List (List TheStatement)) (R0 : List Record) (called : List ℕ) (first : Held D) (before after : Option (List ℕ)) (run : TheRun) → IsIdle D.meaning scripts R0 called first store.old before after run → HasRunTurns D.meaning scripts R0 called first store.new before after result }
     ensures served { (faults : ℕ) → HasServed D.meaning store.old store.new faults faults result }
 {
     match store.flush_log() {
@@ -69,7 +70,7 @@ fn run_fresh<D: Disk, K: Sink>(
     requires unspent { store.old.fault ≡ None }
     requires built { IsScript BUILT_FORMS scripts.now }
     requires fresh { IsFresh (length scripts.now.sessions) run }
-    ensures ran { (R0 : List Record) → IsTrue D.meaning R0 store.old → NoneActive R0 → HasRunAll D.meaning scripts.now.sessions R0 store.old store.new (K.written sink.old) (K.written sink.new) result }
+    ensures ran { (R0 : List Record) → IsTrue D.meaning R0 store.old → NoneActive R0 → HasRunScript D.meaning scripts.now R0 store.old store.new (K.written sink.old) (K.written sink.new) result }
     ensures served { HasServed D.meaning store.old store.new (K.fault_count sink.old) (K.fault_count sink.new) result }
 {
     let mut run = run;
@@ -97,7 +98,7 @@ pub fn run_scripts<D: Disk, K: Sink>(
 ) -> Result<(), RunFault>
     requires unspent { store.old.fault ≡ None }
     requires built { IsScript BUILT_FORMS scripts.now }
-    ensures ran { (R0 : List Record) → IsTrue D.meaning R0 store.old → NoneActive R0 → HasRunAll D.meaning scripts.now.sessions R0 store.old store.new (K.written sink.old) (K.written sink.new) result }
+    ensures ran { (R0 : List Record) → IsTrue D.meaning R0 store.old → NoneActive R0 → HasRunScript D.meaning scripts.now R0 store.old store.new (K.written sink.old) (K.written sink.new) result }
     ensures loan { KeepsLoan D.meaning store.old store.new }
     ensures device_fault { IsErrOf result (RunFault.Store faults.DeviceFault) → Rose (D.meaning.fault_count store.old.disk) (D.meaning.fault_count store.new.disk) }
     ensures write_fault { IsErrOf result RunFault.WriteFault → Rose (K.fault_count sink.old) (K.fault_count sink.new) }

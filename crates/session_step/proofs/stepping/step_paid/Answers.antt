@@ -16,7 +16,7 @@ returns-in-Ok-clause-stepped g c = λ scripts R0 R sessions e h.
     let on = c.in-Ok-true.ensures.on c.in-Ok-true.field-0-test in
     let first = c.in-Ok-true.ensures.first c.in-Ok-true.field-0-test in
     let mid = begun_midst M scripts R0 R sessions w a c.args.script.now n c.begin.new.history c.begin.new.session (c.log_len.ensures.list R h.stands.list) e h on first in
-    step_ran M scripts R0 R sessions w a k n c.begin.new.history c.begin.new.session b c.in-Ok-true.ensures.told on first mid.not_ended c.in-Ok.ensures.owes
+    step_ran M scripts R0 R sessions w a k n c.begin.new.history c.begin.new.session b c.in-Ok-true.ensures.told on first mid c.in-Ok.ensures.owes
     (c.in-Ok.ensures.ran scripts R0 R sessions mid.task e mid.midway)
 
 pub returns-in-Err-run_statement-clause-stepped : goal.returns-in-Err-run_statement-clause-stepped
@@ -30,7 +30,7 @@ returns-in-Err-run_statement-clause-stepped g c = λ scripts R0 R sessions e h.
     let on = c.in-Ok-true.ensures.on c.in-Ok-true.field-0-test in
     let first = c.in-Ok-true.ensures.first c.in-Ok-true.field-0-test in
     let mid = begun_midst M scripts R0 R sessions w a c.args.script.now n c.begin.new.history c.begin.new.session (c.log_len.ensures.list R h.stands.list) e h on first in
-    step_ran_not M scripts R0 R sessions w a k n c.begin.new.history c.begin.new.session b c.in-Err-run_statement.fault c.in-Ok-true.ensures.told on first
+    step_ran_not M scripts R0 R sessions w a k n c.begin.new.history c.begin.new.session b c.in-Err-run_statement.fault c.in-Ok-true.ensures.told on first mid
     (c.in-Err-run_statement.ensures.ran scripts R0 R sessions mid.task e mid.midway)
 
 pub returns-in-Ok-false-clause-stepped : goal.returns-in-Ok-false-clause-stepped

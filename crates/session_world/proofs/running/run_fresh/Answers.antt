@@ -12,7 +12,7 @@ run_sessions-requires-clause-runnable g c = subst (λ (z : List (List Statement)
 
 pub returns-in-Ok-clause-ran : goal.returns-in-Ok-clause-ran
 returns-in-Ok-clause-ran g c = λ R0 t none.
-    run_whole g.D.Disk.meaning c.sessions.result.now c.args.scripts.now.sessions c.sessions.ensures.sessions R0 c.args.store.now c.run_sessions.new.store c.close_run.new.store (g.K.Sink.written c.args.sink.now) (g.K.Sink.written c.run_sessions.new.sink) c.args.run c.run_sessions.new.run t none c.requires.fresh
+    run_whole g.D.Disk.meaning c.args.scripts.now c.sessions.result.now c.schedule.result.now c.sessions.ensures.sessions c.schedule.ensures R0 c.args.store.now c.run_sessions.new.store c.close_run.new.store (g.K.Sink.written c.args.sink.now) (g.K.Sink.written c.run_sessions.new.sink) c.args.run c.run_sessions.new.run t none c.requires.fresh
     c.close_run.result c.in-Ok.ensures.comes c.close_run.ensures.closed
 
 pub returns-in-Ok-clause-served : goal.returns-in-Ok-clause-served
@@ -22,5 +22,5 @@ returns-in-Ok-clause-served g c =
 
 pub returns-clause-ran : goal.returns-clause-ran
 returns-clause-ran g c = λ R0 t none.
-    run_part g.D.Disk.meaning c.sessions.result.now c.args.scripts.now.sessions c.sessions.ensures.sessions R0 c.args.store.now c.run_sessions.new.store c.run_sessions.new.store (g.K.Sink.written c.args.sink.now) (g.K.Sink.written c.run_sessions.new.sink) c.args.run c.run_sessions.new.run t none c.requires.fresh
+    run_part g.D.Disk.meaning c.args.scripts.now c.sessions.result.now c.schedule.result.now c.sessions.ensures.sessions c.schedule.ensures R0 c.args.store.now c.run_sessions.new.store c.run_sessions.new.store (g.K.Sink.written c.args.sink.now) (g.K.Sink.written c.run_sessions.new.sink) c.args.run c.run_sessions.new.run t none c.requires.fresh
     c.in-Err.fault c.in-Err.ensures.comes

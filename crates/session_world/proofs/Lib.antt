@@ -9,3 +9,4 @@ pub mod Beginning
 pub mod Turning
 pub mod Circling
 pub mod Closing
+pub mod Lending

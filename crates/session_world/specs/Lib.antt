@@ -7,3 +7,4 @@ pub mod Calling
 pub mod Between
 pub mod Moving
 pub mod Rounds
+pub mod Lent

@@ -8,8 +8,10 @@ mod lines;
 mod rounds;
 mod running;
 mod seats;
+mod world;
 
 pub use events::{Run, step_run};
 pub use fault::RunFault;
 pub use running::run_scripts;
 pub use seats::Seat;
+pub use world::{Parts, World};

@@ -48,7 +48,7 @@ fn run_sessions<D: Disk, K: Sink>(
 }
 
 /// Makes all records stable, as a run has come to its end.
-fn close_run<D: Disk>(store: &mut Store<D>) -> Result<(), RunFault>
+pub fn close_run<D: Disk>(store: &mut Store<D>) -> Result<(), RunFault>
     requires unspent { store.old.fault ≡ None }
     ensures closed { (scripts : List (List TheStatement)) (R0 : List Record) (called : List ℕ) (first : Held D) (before after : Option (List ℕ)) (run : TheRun) → IsIdle D.meaning scripts R0 called first store.old before after run → HasRunTurns D.meaning scripts R0 called first store.new before after result }
     ensures served { (faults : ℕ) → HasServed D.meaning store.old store.new faults faults result }

@@ -3,10 +3,12 @@ use Rattle.std.proofs.Common.{◌≡◌, ℕ, ◌<◌, ◌≤◌, Bool, true, fa
 use Rattle.std.specs.Borrow.{GName}
 use Rattle.std.specs.Prelude.{OnOk}
 use Rattle.seg_words.specs.Types.{Shape}
-use Rattle.disk_model.specs.Types.{Files, Meaning, Now, Always, Untouched}
+use Rattle.disk_model.specs.Types.{Files, Meaning, Now, Always, IsSettled, Untouched}
 use Rattle.disk_model.specs.declared.disk.File.TheVariants.{Data, Log}
 use Rattle.redo_model.specs.Records.{Record}
-use Rattle.redo_model.specs.Model.{is_active}
+use Rattle.redo_model.specs.Model.{is_active, Extends}
+use Rattle.redo_model.specs.Lists.{same, more}
+use Rattle.redo_laws.proofs.lists.Prefixes.{extends_length}
 use Rattle.session_laws.specs.Sessions.{own_of}
 use Rattle.session_laws.proofs.Own.{own_active}
 use Rattle.rollback_laws.specs.Closing.{closed}
@@ -18,7 +20,7 @@ use Rattle.history_model.specs.Running.{IsAtEnd}
 use Rattle.store_files.specs.declared.fault.OpenFault.{OpenFault}
 use Rattle.store_files.specs.declared.fault.OpenFault.TheVariants as opening
 use Rattle.store_core.specs.Store.{Held, Read, IsTrue, with_disk}
-use Rattle.store_core.specs.Survives.{IsLeft, Survives, Rises}
+use Rattle.store_core.specs.Survives.{IsSound, IsLeft, Survives, Rises}
 use Rattle.store_core.specs.declared.fault.StoreFault.{StoreFault}
 use Rattle.store_core.specs.declared.fault.StoreFault.TheVariants as faults
 use Rattle.recovery.specs.FaultOf.{IsFirstByte, IsPageFault}
@@ -31,7 +33,7 @@ use Rattle.session_world.specs.declared.fault.RunFault.TheVariants as stops
 use Rattle.assm.specs.Status.{status_of_open}
 use Rattle.assm.specs.declared.status.Status.{Status}
 use Rattle.assm.specs.declared.status.Status.TheVariants as the
-use Rattle.assm.specs.Top.{Ran, RanLines}
+use Rattle.assm.specs.Top.{StartsSound, Ran, RanLines, RanPrinted}
 use Rattle.assm.specs.Ends.{Begins, RunsTo, EndsAs, IsBlockByte, StopsAs}
 
 -- a session of an inactive list has no transaction
@@ -41,6 +43,14 @@ no_own R w (Some t) e none = absurd (true≢false (sym (own_active R w t e) ∙ 
 
 pub none_active : (R : List Record) → ((t : ℕ) → is_active R t ≡ false) → NoneActive R
 none_active R none w = no_own R w (own_of R w) refl none
+
+-- a first part that is no shorter is all
+all_of : (Q R : List Record) → Extends Q R → length R ≤ length Q → Q ≡ R
+all_of Q _ same l = refl
+all_of Q _ (more {Q = S} r h) l = absurd (let k = extends_length Q S h in omega (arith, k, l))
+
+both_files : (x y : Files) → x.log_bytes ≡ y.log_bytes → x.data_bytes ≡ y.data_bytes → x ≡ y
+both_files x y l d = ap (λ (bytes : List ℕ). record x { log_bytes = bytes }) l ∙ ap (λ (bytes : List ℕ). record y { data_bytes = bytes }) d
 
 -- so many before a moment, and all from it on
 abbrev raised : ℕ → (ℕ → ℕ) → ℕ → ℕ → ℕ
@@ -111,10 +121,23 @@ module _ {D : Type 0} (meaning : Meaning D) where
         subst (λ (n : ℕ). IsLeft sh data_bytes run.ran.run.records n image) (at (meaning.clock disk') refl)
         (left_over since more run.ran.run.records b disk' sh data_bytes to (keeps.shape ∙ shape_is) data_is lasts (meaning.clock disk') image begun (omega arith) crash)
 
+    -- what is read then is what a crash leaves, and has all records
+    starts_again : (Q : List Record) → IsTrue meaning Q b → b.fault ≡ None → ((d : D) → meaning.told d → Now meaning d (meaning.files d)) → ((image : Files) → Now meaning disk' image → IsLeft sh data_bytes Q (length Q) image) → StartsSound meaning disk' sh Q
+    starts_again Q stood unspent as_read left =
+        let log : IsSettled meaning disk' Log = subst (λ (d : D). IsSettled meaning d Log) to (stood.list.ready unspent).settled in
+        let mine : IsLeft sh data_bytes Q (length Q) (meaning.files disk') = left (meaning.files disk') (as_read disk' log.told) in
+        record {
+          durable = record {
+            told = log.told;
+            durable = λ image crash. both_files image (meaning.files disk') (log.durable image crash) ((left image crash).data_stays ∙ sym mine.data_stays);
+          };
+          sound = subst (λ (S : List Record). IsSound sh S (meaning.files disk')) (all_of mine.older Q mine.part mine.enough) mine.sound;
+        }
+
     pub runs_to : (result : Result (Unit {0}) RunFault) → ((R0 : List Record) → IsTrue meaning R0 a → NoneActive R0 → HasRunScript meaning script R0 a b old new result) → OnOk result (b.fault ≡ None) → (moment : ℕ) → moment ≡ meaning.clock b.disk
         → ((since : ℕ) (needed more : ℕ → ℕ) (Q : List Record) → IsTrue meaning Q b → b.fault ≡ None → Survives meaning since needed Q b → Rises needed more moment b.log.stable → Survives meaning since more Q b)
-        → RunsTo meaning since data_bytes disk' old new sh R script result
-    runs_to (Ok done) ran unspent moment is rises =
+        → ((d : D) → meaning.told d → Now meaning d (meaning.files d)) → RunsTo meaning since data_bytes disk' old new sh R script result
+    runs_to (Ok done) ran unspent moment is rises as_read =
         let run = ran (closed R) stands no_one in
         record {
           ran = part_of (Ok done) run;
@@ -122,15 +145,16 @@ module _ {D : Type 0} (meaning : Meaning D) where
           printed = run.ran.run.printed;
           over = subst (λ (d : D). IsAtEnd sh script.sessions (closed R) run.ran.run.records run.ran.run.history (meaning.clock d)) to (subst (λ (s : Shape). IsAtEnd s script.sessions (closed R) run.ran.run.records run.ran.run.history (meaning.clock b.disk)) shape_is run.ran.run.over);
           stable = all_left done run moment is unspent rises;
+          again = starts_again run.ran.run.records run.ran.run.stands unspent as_read (all_left done run moment is unspent rises);
         }
-    runs_to (Err stops.WriteFault) ran unspent moment is rises = part_of (Err stops.WriteFault) (ran (closed R) stands no_one)
-    runs_to (Err (stops.Store faults.DeviceFault)) ran unspent moment is rises =
+    runs_to (Err stops.WriteFault) ran unspent moment is rises as_read = part_of (Err stops.WriteFault) (ran (closed R) stands no_one)
+    runs_to (Err (stops.Store faults.DeviceFault)) ran unspent moment is rises as_read =
         let run = ran (closed R) stands no_one in
-        record { ran = part_of (Err (stops.Store faults.DeviceFault)) run; lines = inl run.ran.run.printed }
-    runs_to (Err (stops.Store faults.NoMemory)) ran unspent moment is rises =
+        record { ran = part_of (Err (stops.Store faults.DeviceFault)) run; printed = run.ran.run.printed }
+    runs_to (Err (stops.Store faults.NoMemory)) ran unspent moment is rises as_read =
         let run = ran (closed R) stands no_one in
         record { ran = part_of (Err (stops.Store faults.NoMemory)) run; lines = run.ran.run.printed }
-    runs_to (Err (stops.Store (faults.BadPage dba))) ran unspent moment is rises = absurd (ran (closed R) stands no_one).ran.run.sound
+    runs_to (Err (stops.Store (faults.BadPage dba))) ran unspent moment is rises as_read = absurd (ran (closed R) stands no_one).ran.run.sound
 
   -- ---- the status
   -- the byte of a page that is wrong
@@ -145,7 +169,7 @@ module _ {D : Type 0} (meaning : Meaning D) where
   -- a run that stopped at a fault of the store ends so
   pub ends_as : (since : ℕ) (data_bytes : List ℕ) (disk disk' : D) (sh : Shape) (R : List Record) (script : Script) (old new : Option (List ℕ)) (fault : StoreFault) (status : Status) → StopsAs meaning disk disk' fault status → RunsTo meaning since data_bytes disk old new sh R script (Err (stops.Store fault)) → EndsAs meaning since data_bytes disk' old new sh R script status
   ends_as since data_bytes disk disk' sh R script old new faults.DeviceFault status h ran =
-      subst (λ (s : Status). EndsAs meaning since data_bytes disk' old new sh R script s) (sym h.0) (subst (λ (d : D). RanLines meaning since data_bytes d old new sh R script) (sym h.1) ran)
+      subst (λ (s : Status). EndsAs meaning since data_bytes disk' old new sh R script s) (sym h.0) (subst (λ (d : D). RanPrinted meaning since data_bytes d old new sh R script) (sym h.1) ran)
   ends_as since data_bytes disk disk' sh R script old new faults.NoMemory status h ran =
       subst (λ (s : Status). EndsAs meaning since data_bytes disk' old new sh R script s) (sym h.0) (subst (λ (d : D). RanLines meaning since data_bytes d old new sh R script) (sym h.1) ran)
   ends_as since data_bytes disk disk' sh R script old new (faults.BadPage d) status h ran = absurd ran

@@ -14,7 +14,7 @@ use Rattle.recovery.specs.Opened.{IsOpened, Over}
 use Rattle.recovery.specs.Refused.{block_at}
 use Rattle.session_world.specs.declared.fault.RunFault.{RunFault}
 use Rattle.session_world.specs.declared.fault.RunFault.TheVariants as stops
-use Rattle.assm.specs.Top.{Ran, RanLines, RanWhole}
+use Rattle.assm.specs.Top.{Ran, RanLines, RanPrinted, RanWhole}
 use Rattle.assm.specs.declared.status.Status.{Status}
 use Rattle.assm.specs.declared.status.Status.TheVariants.{Done, DeviceFault, NoMemory, BadFile, WriteFault}
 
@@ -30,7 +30,7 @@ module _ {D : Type 0} (meaning : Meaning D) (since : ℕ) (data_bytes : List ℕ
   abbrev pub RunsTo : Result (Unit {0}) RunFault → Type 0
   RunsTo (Ok done) = RanWhole meaning since data_bytes disk' old new sh R script
   RunsTo (Err stops.WriteFault) = Ran meaning since data_bytes disk' old new sh R script
-  RunsTo (Err (stops.Store faults.DeviceFault)) = RanLines meaning since data_bytes disk' old new sh R script
+  RunsTo (Err (stops.Store faults.DeviceFault)) = RanPrinted meaning since data_bytes disk' old new sh R script
   RunsTo (Err (stops.Store faults.NoMemory)) = RanLines meaning since data_bytes disk' old new sh R script
   RunsTo (Err (stops.Store (faults.BadPage dba))) = ⊥
 
@@ -38,7 +38,7 @@ module _ {D : Type 0} (meaning : Meaning D) (since : ℕ) (data_bytes : List ℕ
   abbrev pub EndsAs : Status → Type 0
   EndsAs Done = RanWhole meaning since data_bytes disk' old new sh R script
   EndsAs WriteFault = Ran meaning since data_bytes disk' old new sh R script
-  EndsAs DeviceFault = RanLines meaning since data_bytes disk' old new sh R script
+  EndsAs DeviceFault = RanPrinted meaning since data_bytes disk' old new sh R script
   EndsAs NoMemory = RanLines meaning since data_bytes disk' old new sh R script
   EndsAs status = ⊥
 

@@ -68,19 +68,25 @@ pub record Ran {D : Type 0} (meaning : Meaning D) (since : ℕ) (data_bytes : Li
   pub took : AppendsPrefix old new (text_of history)
   pub survives : Always meaning since disk' (λ m image. IsLeft sh data_bytes records (needed_by (length R) history m) image)
 
--- No line was cut. Where memory was wanting, the newest entry may lack all of its lines.
+-- the sink took the whole text
+pub record RanPrinted {D : Type 0} (meaning : Meaning D) (since : ℕ) (data_bytes : List ℕ) (disk' : D) (old new : Option (List ℕ)) (sh : Shape) (R : List Record) (script : Script) : Type 0 where
+  pub ran : Ran meaning since data_bytes disk' old new sh R script
+  pub printed : Appends old new (text_of ran.history)
+
+-- No line was cut, and the newest entry may lack all of its lines: memory was wanting for them.
 pub record RanLines {D : Type 0} (meaning : Meaning D) (since : ℕ) (data_bytes : List ℕ) (disk' : D) (old new : Option (List ℕ)) (sh : Shape) (R : List Record) (script : Script) : Type 0 where
   pub ran : Ran meaning since data_bytes disk' old new sh R script
   pub lines : Appends old new (text_of ran.history) ⊎ LacksNewest old new ran.history
 
 -- All of it ran: all these turns were taken, each statement has its entry, no transaction is active, the sink took the whole text,
--- and a crash now leaves all records.
+-- and a crash now leaves all records: the next run begins with them.
 pub record RanWhole {D : Type 0} (meaning : Meaning D) (since : ℕ) (data_bytes : List ℕ) (disk' : D) (old new : Option (List ℕ)) (sh : Shape) (R : List Record) (script : Script) : Type 0 where
   pub ran : Ran meaning since data_bytes disk' old new sh R script
   pub all : AreTurns sh script.sessions (closed R) (turns_of script ran.rounds) ran.records ran.history
   pub printed : Appends old new (text_of ran.history)
   pub over : IsAtEnd sh script.sessions (closed R) ran.records ran.history (meaning.clock disk')
   pub stable : (image : Files) → Now meaning disk' image → IsLeft sh data_bytes ran.records (length ran.records) image
+  pub again : StartsSound meaning disk' sh ran.records
 
 module _ {D : Type 0} (meaning : Meaning D) (disk disk' : D) (old new : Option (List ℕ)) where
   -- nothing was printed, and no call was made on the disk
@@ -106,8 +112,8 @@ module _ {D : Type 0} (meaning : Meaning D) (disk disk' : D) (old new : Option (
     pub read : meaning.told disk → IsRead shape (meaning.files disk)
     pub ran : (sh : Shape) (R : List Record) → StartsSound meaning disk sh R → P sh R script
 
-  -- The script is in the grammar. The files read as a store's but aren't a sound one's: the page that begins here in the data file
-  -- isn't what an event needed.
+  -- The script is in the grammar. The files read as a store's but aren't a sound one's: an event found no page as it needed one.
+  -- What is told is a place where a block begins in the data file, which one isn't said, and the byte there, 0 past the file's end.
   pub record Breaks (which : File) (offset seen : ℕ) (text : List ℕ) : Type 0 where
     pub opened : Opened (λ sh R script. ⊥) text
     pub file : which ≡ Data
@@ -124,6 +130,9 @@ module _ {D : Type 0} (meaning : Meaning D) (disk disk' : D) (old new : Option (
   abbrev pub RanLinesOf : List ℕ → Type 0
   RanLinesOf text = Opened (RanLines meaning (meaning.clock disk) (meaning.files disk).data_bytes disk' old new) text
 
+  abbrev pub RanPrintedOf : List ℕ → Type 0
+  RanPrintedOf text = Opened (RanPrinted meaning (meaning.clock disk) (meaning.files disk).data_bytes disk' old new) text
+
   abbrev pub RanWholeOf : List ℕ → Type 0
   RanWholeOf text = Opened (RanWhole meaning (meaning.clock disk) (meaning.files disk).data_bytes disk' old new) text
 
@@ -132,7 +141,7 @@ module _ {D : Type 0} (meaning : Meaning D) (disk disk' : D) (old new : Option (
   abbrev pub RunTells : Status → List ℕ → Type 0
   RunTells Done text = RanWholeOf text
   RunTells WriteFault text = RanOf text
-  RunTells DeviceFault text = Fails opening.DeviceFault text ⊎ RanLinesOf text
+  RunTells DeviceFault text = Fails opening.DeviceFault text ⊎ RanPrintedOf text
   RunTells NoMemory text = NothingCalled ⊎ (Fails opening.NoMemory text ⊎ RanLinesOf text)
   RunTells (BadScript line why) text = IsBad line why text × NothingCalled
   RunTells (BadFile which offset seen) text = Fails (opening.BadFile which offset seen) text ⊎ Breaks which offset seen text

@@ -1,0 +1,4 @@
+pub mod KeptLaw
+pub mod BestsAfter
+pub mod LowersLaw
+pub mod Computing

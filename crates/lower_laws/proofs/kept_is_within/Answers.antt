@@ -1,0 +1,5 @@
+use Rattle.lower_laws.proofs.KeptLaw as laws
+use Rattle.lower_laws.proofs.kept_is_within.Goals as goal
+
+pub returns : goal.returns
+returns c = laws.kept_is_within

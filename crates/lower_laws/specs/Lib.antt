@@ -1,0 +1,4 @@
+pub mod Drafts
+pub mod Lowers
+pub mod Kept
+pub mod Worked

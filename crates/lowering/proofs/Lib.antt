@@ -1,0 +1,10 @@
+pub mod Knowing
+pub mod Vacancy
+pub mod Places
+pub mod Freeing
+pub mod Counting
+pub mod Told
+pub mod Levels
+pub mod Drafting
+pub mod Adding
+pub mod AnswersLaw

@@ -22,6 +22,7 @@ knows_later meaning a b R o g r p k = record {
   table = k.table;
   shape = k.shape ∙ sym p.loan.shape;
   segment = k.segment;
+  holds_table = k.holds_table;
   ended = k.ended;
   percent = k.percent;
 }
@@ -33,6 +34,7 @@ knows_read meaning a b R o sh g q r e p t i is holds most = record {
   table = i;
   shape = e ∙ sym p.loan.shape;
   segment = subst (λ (s : Shape). IsSegment s R o g) (sym e) is;
+  holds_table = holds;
   ended = (tables_tell a.shape R q t.lawful.allowed holds).ended;
   percent = most;
 }

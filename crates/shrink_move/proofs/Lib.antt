@@ -9,3 +9,9 @@ pub mod Before
 pub mod OneLaw
 pub mod MoveLaw
 pub mod ThereLaw
+pub mod Stood
+pub mod Drafted
+pub mod Homes
+pub mod Carried
+pub mod Steps
+pub mod FollowLaw

@@ -8,7 +8,6 @@ use Rattle.redo_model.specs.Records.{Record}
 use Rattle.redo_model.specs.Model.{AreAllowed, at_place, data_blocks, ended_in, first_taker, image, is_active}
 use Rattle.version_laws.specs.Types.{ended_by}
 use Rattle.store_core.specs.Store.{Held}
-use Rattle.store_core.specs.declared.fault.StoreFault.{StoreFault}
 use Rattle.shrink_laws.specs.declared.skip.Skip.{Skip}
 use Rattle.shrink_laws.specs.Stops.{IsAt, IsFull, LeadsDown, row_image}
 use Rattle.shrink_laws.specs.Cursor.{Finds}
@@ -25,7 +24,7 @@ use Rattle.shrink_move.proofs.Placing.{at_within}
 use Rattle.shrink_move.proofs.Opening.{HasBody, body_full, body_is, has_body, own_row}
 
 -- what follows of an answer
-pub answer_on : {A : Type 0} (r : Result A StoreFault) (P Q : A → Type 0) → ((x : A) → P x → Q x) → IfOk r P → IfOk r Q
+pub answer_on : {A E : Type 0} (r : Result A E) (P Q : A → Type 0) → ((x : A) → P x → Q x) → IfOk r P → IfOk r Q
 answer_on (Ok x) P Q h p = h x p
 answer_on (Err f) P Q h p = tt
 

@@ -1,13 +1,15 @@
 -- What a shrink asks of a page; none of a page that can't be asked so.
-use Rattle.std.specs.Prelude.{ℕ, zero, suc, Bool, cond, not, ◌&&◌, leb, List, length, slice_index_or, Option, Some, None}
-use Rattle.seg_words.specs.Types.{LONGEST_ROW, MOST_PCTFREE, Slot, Kind, Head, Rowid, Shrink, is_empty, new_slot, takes}
+use Rattle.std.specs.Prelude.{ℕ, zero, suc, Bool, cond, not, ◌&&◌, leb, ltb, List, length, slice_index_or, Option, Some, None}
+use Rattle.seg_words.specs.Types.{LONGEST_ROW, MOST_PCTFREE, Block, Slot, Kind, Head, Rowid, Shrink, is_empty, new_slot, takes}
 use Rattle.txn_block.specs.Types.{TxnTable}
 use Rattle.version_laws.specs.Types.{ended_by}
 use Rattle.page_set.specs.declared.page.Page.{Page}
 use Rattle.page_set.specs.declared.page.Page.TheVariants.{Rows}
+use Rattle.row_change.specs.Reading.{slot_or}
 use Rattle.shrink_laws.specs.declared.skip.Skip.{Skip}
 use Rattle.shrink_laws.specs.Stops.{is_skipped}
 use Rattle.shrink_move.specs.declared.outline.Outline.{Outline}
+use Rattle.shrink_move.specs.declared.standing.Standing.{Standing}
 
 -- the slot holds something and wasn't skipped
 abbrev pub is_open : List Skip → ℕ → List Slot → ℕ → Bool
@@ -42,3 +44,15 @@ body_of _ link = None
 abbrev pub takes_in : TxnTable → ℕ → ℕ → Page → Option Bool
 takes_in q pctfree len (Rows rows) = cond (leb pctfree MOST_PCTFREE) (Some (takes (ended_by q) pctfree rows.block len Shrink)) None
 takes_in q pctfree len _ = None
+
+-- what stands in slot k of block b, none where a row is longer than any
+abbrev pub standing_if : ℕ → ℕ → Slot → Option Standing
+standing_if b k i = cond (ltb LONGEST_ROW (length i.bytes)) None (Some (record { dba = b; slot = k; len = length i.bytes; old = i }))
+
+abbrev pub standing_at : ℕ → ℕ → Block → Option Standing
+standing_at b k x = standing_if b k (slice_index_or x.slots k new_slot)
+
+-- the same in the slot k, or where a new row goes
+abbrev pub standing_in : TxnTable → ℕ → Option ℕ → Page → Option Standing
+standing_in q b k (Rows rows) = standing_at b (slot_or (ended_by q) rows.block k) rows.block
+standing_in q b k _ = None

@@ -8,3 +8,7 @@ pub mod Ones
 pub mod Moves
 pub mod MoveLaws
 pub mod There
+pub mod Drafting
+pub mod Stepping
+pub mod Filling
+pub mod Follows

@@ -35,8 +35,8 @@ StartIs sh R o who busy (Err (faults.ShrinkBusy session)) = IsBusy R o who busy 
 StartIs sh R o who busy (Err (faults.UndoFull holders)) = ⊥
 StartIs sh R o who busy (Err (faults.Store fault)) = Unit {0}
 
--- what of an answer is the store's: a start that is refused went well
-abbrev pub store_part : Result Shrink ShrinkFault → Result (Unit {0}) StoreFault
+-- what of an answer is the store's: a call that is refused went well
+abbrev pub store_part : {T : Type 0} → Result T ShrinkFault → Result (Unit {0}) StoreFault
 store_part (Ok x) = Ok tt
 store_part (Err faults.MovementOff) = Ok tt
 store_part (Err (faults.ShrinkBusy session)) = Ok tt

@@ -1,4 +1,5 @@
 // Laws of a step: where the cursor stands, that the step is one, and that the record which it adds is allowed.
+ghost use Rattle.shrink_move.specs.Follows.{StepsFollow};
 ghost use Rattle.shrink_move.specs.MoveLaws.{RowsMoveToBlocks, RowsMoveToBodies};
 ghost use Rattle.shrink_move.specs.Ones.{NextsAreOne};
 ghost use Rattle.shrink_move.specs.There.{CursorsAreThere};
@@ -22,4 +23,9 @@ pub fn rows_move_to_bodies()
 /// The cursor of a shrink stands at one of the table's positions while the table isn't lowered.
 pub fn cursors_are_there()
     ensures { CursorsAreThere }
+{}
+
+/// A step is one of the list's cursor: the laws on the cursor speak of it.
+pub fn steps_follow()
+    ensures { StepsFollow }
 {}

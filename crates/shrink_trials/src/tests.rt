@@ -1,5 +1,8 @@
 // A table of PCTFREE 50 in a store of 64 blocks with extents of 8: its data blocks are 43 to 46, and each takes one row of 1,800
 // bytes.
+mod bytes;
+mod steps;
+
 ghost use Rattle.std.specs.Prelude.{◌≤◌, length};
 ghost use Rattle.seg_words.specs.Types.{LONGEST_ROW};
 
@@ -13,6 +16,8 @@ use std::test::Fail;
 use store_core::{Store, StoreFault, prepare};
 use store_files::format;
 use txn_end::commit;
+
+mod released;
 
 const SHAPE: Shape = Shape {
     blocks: 64,
@@ -58,9 +63,13 @@ fn put(alloc: Global, store: &mut Store<Memory>, own: Option<TxnId>, at: Dba, by
 }
 
 fn make_table(alloc: Global, store: &mut Store<Memory>) -> Result<(), Fail> {
+    make_table_of(alloc, store, 50)
+}
+
+fn make_table_of(alloc: Global, store: &mut Store<Memory>, pctfree: u8) -> Result<(), Fail> {
     match Name::copy(alloc, b"t") {
         Ok(Some(name)) => {
-            new_table(alloc, store, &name, 50)?;
+            new_table(alloc, store, &name, pctfree)?;
         }
         _ => return Err("no name")?,
     }
@@ -78,10 +87,14 @@ fn fill(alloc: Global, store: &mut Store<Memory>) -> Result<(u64, u64), Fail> {
     Ok((first, second))
 }
 
-// Where a row stands whose image is that part of undo block 37 in its first use, when so many commits are there.
 fn stands(dba: Dba, nth: u8, commits: u64) -> Place {
+    stands_in(dba, 0, nth, commits)
+}
+
+// Where a row stands whose image is that part of undo block 37 in its first use, when so many commits are there.
+fn stands_in(dba: Dba, slot: u8, nth: u8, commits: u64) -> Place {
     Place {
-        at: Rowid { dba, slot: 0 },
+        at: Rowid { dba, slot },
         born: Lsn(2),
         undo: UndoAddr {
             block: 37,

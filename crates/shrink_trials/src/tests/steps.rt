@@ -206,13 +206,6 @@ fn open_fourth(alloc: Global, store: &mut Store<Memory>) -> Result<u64, Fail> {
     Ok(changed(insert(alloc, store, 2, None, TABLE, FOURTH, b"w")))
 }
 
-fn add(all: &mut Vec<u8>, pieces: &[&[u8]]) -> Result<(), Fail> {
-    for piece in pieces {
-        all.extend_from_slice(piece)?;
-    }
-    Ok(())
-}
-
 // Whether the log ends with a Move of a row of these letters.
 fn ends_with(
     alloc: Global,
@@ -222,9 +215,12 @@ fn ends_with(
     comes: &[u8],
     behind: &[u8],
 ) -> Result<bool, Fail> {
-    let mut all = Vec::new(alloc);
     let row = [letter; 1_800];
-    add(&mut all, &[leaves, &row, comes, &row, behind])?;
+    let mut all = Vec::from_slice(alloc, leaves)?;
+    all.extend_from_slice(&row)?;
+    all.extend_from_slice(comes)?;
+    all.extend_from_slice(&row)?;
+    all.extend_from_slice(behind)?;
     Ok(disk.bytes(File::Log).ends_with(&all))
 }
 

@@ -17,4 +17,5 @@ mod slots;
 pub use answer::{ScanFault, ScanStep, Scanned};
 pub use history_text::RowOut;
 pub use laws::{marks_are_lowerings, scans_are_work, scans_stay};
+pub use listing::list_table;
 pub use scans::Scans;

@@ -2,7 +2,7 @@
 ghost use Rattle.std.specs.Prelude.{◌≡◌, ℕ, ◌+◌, ◌<◌, true, None, Some, List, [], ◌∷◌, cond, eqb, IfOk, IfErr, IfSome, IsSome, OnOk};
 ghost use Rattle.seg_words.specs.Types.{is_extent, is_shape};
 ghost use Rattle.redo_model.specs.Records.{Record};
-ghost use Rattle.redo_model.specs.Model.{Extent, extent_at, extents_of};
+ghost use Rattle.redo_model.specs.Model.{Extent, IsTable, extent_at, extents_of};
 ghost use Rattle.redo_laws.specs.Scan.{scan_list};
 ghost use Rattle.data_places.specs.Places.{IsPlace};
 ghost use Rattle.store_core.specs.Causes.{HasLooked, IsSoundFault};
@@ -11,11 +11,11 @@ ghost use Rattle.scan_table.specs.Listing.{AddsFormatted, FormattedAt, IsFound, 
 
 use data_places::{Place, block_in, place_at};
 use disk_model::Disk;
-use seg_base::{Dba, Sequence, Shape};
+use seg_base::{Dba, Obj, Sequence, Shape, TXN_TABLE_BLOCK};
 use segment_read::Segment;
 use std::alloc::Global;
 use store_core::{Store, StoreFault};
-use store_read::{code_at, extent_number};
+use store_read::{code_at, extent_number, read_segment};
 
 /// A table of a store of this shape.
 #[derive(Drop)]
@@ -140,4 +140,24 @@ pub fn list_blocks<D: Disk>(
         }
     }
     Ok(blocks)
+}
+
+/// The formatted blocks of a table that is there under its high mark, in order of position.
+pub fn list_table<D: Disk>(
+    alloc: Global,
+    store: &mut Store<D>,
+    obj: Obj,
+) -> Result<Sequence<Dba>, StoreFault>
+    ensures looked { HasLooked D.meaning store.old store.new result }
+    ensures says { (R : List Record) → IsTrue D.meaning R store.old → IsTable R obj → IfOk result (λ blocks. blocks ≡ scan_list store.old.shape R obj) }
+    ensures sound { (R : List Record) → IsTrue D.meaning R store.old → IsTable R obj → store.old.fault ≡ None → IfErr result IsSoundFault }
+{
+    let shape = store.shape();
+    if !shape.is_within_limits() {
+        return Err(store.refuse(Dba(TXN_TABLE_BLOCK)));
+    }
+    match read_segment(store, obj) {
+        Ok(segment) => list_blocks(alloc, store, &Listing { shape, segment }),
+        Err(fault) => Err(fault),
+    }
 }

@@ -45,7 +45,7 @@ pub const BUILT_FORMS: Forms = Forms {
     shrink: false,
     usage: true,
     fix: true,
-    repair: false,
+    repair: true,
     checkpoint: false,
 };
 

@@ -93,10 +93,9 @@ const LINES: [(&[u8], u32, Why); 52] = [
 ];
 
 /// Lines of forms that aren't built.
-const CLOSED: [&[u8]; 5] = [
+const CLOSED: [&[u8]; 4] = [
     b"session 1\nshrink t\n",
     b"session 1\nshrink T now\n",
-    b"session 1\nrepair T\n",
     b"session 1\ncheckpoint\n",
     b"session 1\nschedule 1 0x2\n",
 ];

@@ -19,3 +19,5 @@ pub mod Places
 pub mod ScanEvents
 pub mod Usages
 pub mod Repairings
+pub mod Incarnations
+pub mod RepairEvents

@@ -1,4 +1,5 @@
 pub mod RowWorks
+pub mod RepairWorks
 pub mod Doings
 pub mod Acting
 pub mod Starting
@@ -13,6 +14,7 @@ pub mod Changes
 pub mod Scanned
 pub mod Counted
 pub mod Repairing
+pub mod RepairEvents
 pub mod Located
 pub mod Leaving
 pub mod Updates

@@ -1,10 +1,10 @@
 // What a session is at between its events.
-use history_model::MOST_STARTS;
+use history_model::{MOST_STARTS, Settled};
 use row_change::Place;
-use seg_base::{Obj, RowNo, Scn, TxnId};
+use seg_base::{Dba, Obj, RowNo, Scn, Sequence, TxnId};
 
 /// What a session is at: it waits with its next statement, or with what is under way.
-#[derive(Clone, Copy, Debug, PartialEq, Eq, Drop)]
+#[derive(Debug, Drop)]
 pub enum Doing {
     Waiting,
     /// An insert moves the marks of its table.
@@ -15,6 +15,8 @@ pub enum Doing {
     OnRow(RowWork),
     /// A scan reads its blocks, one an event. It stands in its session's place of the open scans.
     Scanning,
+    /// A repair goes through the blocks of its list, one an event.
+    Repairing(RepairWork),
 }
 
 /// The numbers of commits that ended the starts of an update or a delete so far: the first `count` of them, in order.
@@ -31,4 +33,15 @@ pub struct RowWork {
     pub row: RowNo,
     pub starts: Starts,
     pub place: Option<Place>,
+}
+
+/// A repair at work: its table, the blocks of its list, how many of them had their event, those that it settled, and how many of
+/// these got another kept class.
+#[derive(Debug, Drop)]
+pub struct RepairWork {
+    pub obj: Obj,
+    pub blocks: Sequence<Dba>,
+    pub done: usize,
+    pub settled: Sequence<Settled>,
+    pub changed: u32,
 }

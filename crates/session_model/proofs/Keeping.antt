@@ -1,6 +1,6 @@
 -- What an event of one session leaves of another.
-use Rattle.std.proofs.Common.{◌≡◌, ◌≢◌, ℕ, ◌≤◌, true, false, List, ◌∷◌, length, Option, Some, None, refl, sym, ◌∙◌, ap, subst, le_trans, inl, inr}
-use Rattle.seg_words.specs.Types.{Shape}
+use Rattle.std.proofs.Common.{◌≡◌, ◌≢◌, ℕ, suc, ◌≤◌, Bool, true, false, cond, eqb, List, [], ◌∷◌, ◌++◌, length, Option, Some, None, refl, sym, ◌∙◌, ap, ap₂, subst, le_trans, inl, inr}
+use Rattle.seg_words.specs.Types.{Shape, class_code}
 use Rattle.redo_model.specs.Records.{Record}
 use Rattle.redo_model.specs.Model.{prefix, Extends, AreAllowed}
 use Rattle.redo_model.specs.Lists.{same, more}
@@ -14,7 +14,7 @@ use Rattle.history_model.specs.declared.history.HistoryItem.{HistoryItem}
 use Rattle.history_model.specs.History.{Task, statement_of, session_of, under_way}
 use Rattle.history_model.specs.Spans.{Span}
 use Rattle.scan_laws.specs.Staying.{is_released_since}
-use Rattle.history_model.specs.TableMeans.{Settles, IsSettled, IsReleased}
+use Rattle.history_model.specs.TableMeans.{Settles, IsSettled, IsReleased, count_changed}
 use Rattle.redo_model.specs.Model.{kept_class, class_of_block, pctfree_of}
 use Rattle.history_laws.specs.Events.{Goes, goes_none, goes_one}
 use Rattle.history_laws.specs.Working.{now_of, Work, Scanning, Inserting, OnRow, TakingBack, Shrinking, Lowering}
@@ -71,10 +71,36 @@ released_later sh B E F o n b m e h = record {
   released = subst (λ (z : List Record). is_released_since sh (length B) z o b ≡ true) (sym (prefix_longer E F m e h.within)) h.released;
 }
 
+-- its kept class is the one that it had
+abbrev pub is_same_class : List Record → Settled → Bool
+is_same_class E s = eqb (class_code (kept_class (prefix E s.before) s.block)) (class_code (kept_class (prefix E s.after) s.block))
+
 pub repairs_later : (sh : Shape) (B E F : List Record) (o : ℕ) (all : List ℕ) (n : ℕ) (left : List ℕ) (ss : List Settled) → Extends E F → Repairs sh B E o all n left ss → Repairs sh B F o all n left ss
 repairs_later sh B E F o all n left ss e repairs_none = repairs_none
 repairs_later sh B E F o all m bs ts e (repairs_one n k b cs s ss us p q h r) = repairs_one n m b bs s ss ts p q (settled_later sh B E F o n b s e h) (repairs_later sh B E F o all n (b ∷ bs) ss e r)
 repairs_later sh B E F o all m bs ss e (repairs_past n k b cs us h r) = repairs_past n m b bs ss (released_later sh B E F o n b m e h) (repairs_later sh B E F o all n (b ∷ bs) ss e r)
+
+-- how many of them got another kept class is the same
+pub count_more : (E : List Record) (ss : List Settled) (s : Settled) → count_changed E (ss ++ s ∷ []) ≡ cond (is_same_class E s) (count_changed E ss) (suc (count_changed E ss))
+count_more E [] s = refl
+count_more E (t ∷ ss) s = ap (λ (n : ℕ). cond (is_same_class E t) n (suc n)) (count_more E ss s) ∙ turned (is_same_class E t) (is_same_class E s) (count_changed E ss)
+  where
+    turned : (u v : Bool) (n : ℕ) → cond u (cond v n (suc n)) (suc (cond v n (suc n))) ≡ cond v (cond u n (suc n)) (suc (cond u n (suc n)))
+    turned true true n = refl
+    turned true false n = refl
+    turned false true n = refl
+    turned false false n = refl
+
+class_same : (E F : List Record) (s : Settled) → Extends E F → s.before ≤ s.after → s.after ≤ length E → is_same_class F s ≡ is_same_class E s
+class_same E F s e grows within =
+    ap₂ (λ (Q R : List Record). eqb (class_code (kept_class Q s.block)) (class_code (kept_class R s.block))) (prefix_longer E F s.before e (le_trans grows within)) (prefix_longer E F s.after e within)
+
+pub count_later : (sh : Shape) (B E F : List Record) (o : ℕ) (all : List ℕ) (n : ℕ) (left : List ℕ) (ss : List Settled) → Extends E F → Repairs sh B E o all n left ss → count_changed F ss ≡ count_changed E ss
+count_later sh B E F o all n left ss e repairs_none = refl
+count_later sh B E F o all m bs ts e (repairs_one n k b cs s ss us p q h r) =
+    subst (λ (z : List Settled). count_changed F z ≡ count_changed E z) (sym q)
+    (count_more F ss s ∙ (ap₂ (λ (v : Bool) (c : ℕ). cond v c (suc c)) (class_same E F s e h.grows h.within) (count_later sh B E F o all n (b ∷ bs) ss e r) ∙ sym (count_more E ss s)))
+count_later sh B E F o all m bs ss e (repairs_past n k b cs us h r) = count_later sh B E F o all n (b ∷ bs) ss e r
 
 repair_later : (sh : Shape) (scripts : List (List Statement)) (T : List HistoryItem) (v : ℕ) (Q R : List Record) (w : ℕ) (task : Task) (name : List ℕ) (k : RepairWork) → AreAllowed sh R → v ≢ w → Goes sh scripts T v Q R → task.begins ≤ length Q
     → RepairStands sh (now_of scripts Q w task) name k → RepairStands sh (now_of scripts R w task) name k
@@ -86,6 +112,7 @@ repair_later sh scripts T v Q R w task name k a two g l h =
       reached = h.reached;
       within = le_trans h.within (extends_length Q R e);
       each = repairs_later sh (prefix Q task.begins) Q R k.obj _ h.reached k.left k.settled e h.each;
+      count = h.count ∙ sym (count_later sh (prefix Q task.begins) Q R k.obj _ h.reached k.left k.settled e h.each);
     })
   where
     span : List (List Statement) → ℕ → Task → List Record → List Record → Span

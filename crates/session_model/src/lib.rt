@@ -5,7 +5,7 @@
 #![tactic(auto)]
 
 ghost use Rattle.session_model.specs.Laws.{EndedSessions, EventsEnd, EventsFail, EventsGoOn, NoneIsBusy, SessionsEnd, SettlingsKeep, ShrinksAreBusy, StatementsGoOn, StatementsStart, WorldsBegin, WorldsRun};
-ghost use Rattle.session_model.specs.Repairs.{RepairsBegin, RepairsMean, RepairsPass, RepairsSettle};
+ghost use Rattle.session_model.specs.Repairs.{LeftAreListed, RepairsBegin, RepairsMean, RepairsPass, RepairsSettle};
 
 /// A run begins with records in which no session has a transaction.
 pub fn worlds_begin()
@@ -80,6 +80,11 @@ pub fn repairs_settle()
 /// And past one that was released before its event.
 pub fn repairs_pass()
     ensures { RepairsPass }
+{}
+
+/// The blocks that are left are of its list.
+pub fn left_are_listed()
+    ensures { LeftAreListed }
 {}
 
 /// With none left it means what its entry says.

@@ -6,7 +6,7 @@ use Rattle.seg_words.specs.Types.{Shape, MOST_SESSIONS}
 use Rattle.disk_model.specs.Crash.{Meaning}
 use Rattle.redo_model.specs.Records.{Record}
 use Rattle.redo_model.specs.Model.{Extends, AreAllowed, IsLawful, prefix, table_named}
-use Rattle.redo_laws.proofs.lists.Prefixes.{prefix_longer, prefix_extends}
+use Rattle.redo_laws.proofs.lists.Prefixes.{prefix_longer, prefix_extends, prefix_size}
 use Rattle.script_text.specs.declared.statement.Statement.{Statement}
 use Rattle.script_text.specs.declared.statement.Statement.TheVariants as asked
 use Rattle.history_text.specs.declared.outcome.Outcome.{Outcome}
@@ -107,6 +107,14 @@ turn_now meaning scripts script R0 R sessions w task a from to unspent e m = rec
         (subst (λ (B : List Record). table_named B name ≡ Some h.obj) (begun y) h.table) (λ u session ne s. m.unshrunk u h.obj session s) v h
 
 -- a session's end has a transaction to take back
+-- of what it was at, taken out of it
+pub turn_taken : {D : Type 0} (meaning : Meaning D) (x : Span) (st : Option Statement) (w : ℕ) (own : Option ℕ) (labels : List (List ℕ × ℕ)) (p : Option OpenScan) (d e : ToldDoing) (s : Held D) → d ≡ e → IsTurnOf meaning x st w own labels p e s → IsTurnOf meaning x st w own labels p d s
+turn_taken meaning x st w own labels p d e s same t = subst (λ (z : ToldDoing). IsTurnOf meaning x st w own labels p z s) (sym same) t
+
+-- with how many records its statement began
+pub begins_now : {D : Type 0} (meaning : Meaning D) (scripts : List (List Statement)) (R0 R : List Record) (sessions : ℕ → Session) (w : ℕ) (task : Task) (a : Stage D) → IsMidway meaning scripts R0 R sessions w task a → a.session.begins ≡ length (prefix R task.begins)
+begins_now meaning scripts R0 R sessions w task a m = sym m.midway.begins ∙ sym (prefix_size R task.begins m.midway.within)
+
 pub closing_now : {D : Type 0} (meaning : Meaning D) (scripts : List (List Statement)) (script : List Statement) (R0 R : List Record) (sessions : ℕ → Session) (w : ℕ) (task : Task) (a : Stage D) → script_of scripts w ≡ script → IsMidway meaning scripts R0 R sessions w task a → slice_get script a.session.told ≡ None
     → a.session.own ≡ None → ⊥
 closing_now meaning scripts script R0 R sessions w task a e m z n = m.midway.closing (sym (at_place scripts script w a.session.told e) ∙ z) (m.own ∙ n)
@@ -129,7 +137,7 @@ finished_in_time w k n before now (turned.Over outcome kept) own s t T U l f h =
 
 -- ---- an event that fails
 
-pub run_fails : {D : Type 0} (meaning : Meaning D) (scripts : List (List Statement)) (script : List Statement) (R0 R : List Record) (sessions : ℕ → Session) (w : ℕ) (task : Task) (a b : Stage D) (r : Result Acted StoreFault) (f : StoreFault) → b.store.shape ≡ a.store.shape → b.history ≡ a.history → b.session ≡ a.session
+pub run_fails : {D : Type 0} (meaning : Meaning D) (scripts : List (List Statement)) (script : List Statement) (R0 R : List Record) (sessions : ℕ → Session) (w : ℕ) (task : Task) (a b : Stage D) (r : Result Acted StoreFault) (f : StoreFault) → b.store.shape ≡ a.store.shape → b.history ≡ a.history → b.session.told ≡ a.session.told
     → IsSoundFault f → script_of scripts w ≡ script → IsMidway meaning scripts R0 R sessions w task a → HasTurned meaning (now_of scripts R w task) (slice_get script a.session.told) b.scan a.store b.store r → HasRunOn meaning scripts R0 R sessions w a b (Err f)
 run_fails meaning scripts script R0 R sessions w task a b r f shape alike same sound e m h = record {
   run = record {
@@ -147,8 +155,8 @@ run_fails meaning scripts script R0 R sessions w task a b r f shape alike same s
     others = λ v ne. events_leave_transactions a.store.shape scripts a.history w R h.acted.records v lawful.allowed (λ z. ne (sym z)) goes;
     others_located = λ v d ne k. others_keep_places a.store.shape scripts a.history w R h.acted.records v d lawful.allowed (λ z. ne (sym z)) goes k;
     in_time = λ z. subst (AreInTime (meaning.clock b.store.disk)) (sym alike) (later_in_time (meaning.clock a.store.disk) (meaning.clock b.store.disk) a.history h.acted.time z);
-    entry = λ y. (let k : suc a.session.told ≡ a.session.told = sym y ∙ ap (λ (z : Told). z.told) same in absurd (omega (arith, k)));
-    untold = ap (λ (z : Told). z.told) same;
+    entry = λ y. (let k : suc a.session.told ≡ a.session.told = sym y ∙ same in absurd (omega (arith, k)));
+    untold = same;
     sound = sound;
   };
   goes = goes;
@@ -231,6 +239,7 @@ held_on q (told.Inserting o) h = h
 held_on q (told.TakingBack t) h = h
 held_on q (told.OnRow k) h = h
 held_on q told.Scanning h = h
+held_on q (told.Repairing w) h = h
 
 finished_held : (q : Option OpenScan) (w n k moment : ℕ) (v : Turned) (own : Option ℕ) (s t : Told) (T U : List HistoryItem) → IsKept q v → Finishes w n k moment (record { turned = v; own = own }) s t T U → IsHeld q t.doing
 finished_held q w n k moment (turned.On d) own s t T U h f = subst (λ (z : Told). IsHeld q z.doing) (sym f.0) (held_on q d h)
@@ -316,11 +325,20 @@ always (Err f) p = tt
 pub finishes_as : (w k n n' m m' : ℕ) (a : Acted) (s t : Told) (T U : List HistoryItem) → n ≡ n' → m ≡ m' → Finishes w k n m a s t T U → Finishes w k n' m' a s t T U
 finishes_as w k n n' m m' a s t T U e f h = subst (λ (z : ℕ). Finishes w k n' z a s t T U) f (subst (λ (z : ℕ). Finishes w k z m a s t T U) e h)
 
-pub run_told : {D : Type 0} (meaning : Meaning D) (scripts : List (List Statement)) (script : List Statement) (R0 R : List Record) (sessions : ℕ → Session) (w : ℕ) (task : Task) (a b : Stage D) (z : Acted) (r : Result (Unit {0}) StoreFault) → b.store.shape ≡ a.store.shape → script_of scripts w ≡ script → AllBuilt script
+pub run_told : {D : Type 0} (meaning : Meaning D) (scripts : List (List Statement)) (script : List Statement) (R0 R : List Record) (sessions : ℕ → Session) (w : ℕ) (task : Task) (a b : Stage D) (u : Told) (z : Acted) (r : Result (Unit {0}) StoreFault) → u.told ≡ a.session.told → b.store.shape ≡ a.store.shape → script_of scripts w ≡ script → AllBuilt script
     → IsMidway meaning scripts R0 R sessions w task a → HasTurned meaning (now_of scripts R w task) (slice_get script a.session.told) b.scan a.store b.store (Ok z) → OnOk r (AreBoundTurned (slice_get script a.session.told) z.turned a.labels b.labels)
-    → OnOk r (Finishes w (length script) b.store.log.count (meaning.clock b.store.disk) z a.session b.session a.history b.history) → OnErr r ((b.session ≡ a.session) × (b.history ≡ a.history)) → IfErr r (λ f. f ≡ NoMemory) → HasRunOn meaning scripts R0 R sessions w a b r
-run_told meaning scripts script R0 R sessions w task a b z (Ok u) shape e built m h bound f same cause = run_done meaning scripts script R0 R sessions w task a b z shape e built m h bound f
-run_told meaning scripts script R0 R sessions w task a b z (Err y) shape e built m h bound f same cause = run_fails meaning scripts script R0 R sessions w task a b (Ok z) y shape same.1 same.0 (subst IsSoundFault (sym cause) tt) e m h
+    → OnOk r (Finishes w (length script) b.store.log.count (meaning.clock b.store.disk) z a.session b.session a.history b.history) → OnErr r ((b.session ≡ u) × (b.history ≡ a.history)) → IfErr r (λ f. f ≡ NoMemory) → HasRunOn meaning scripts R0 R sessions w a b r
+run_told meaning scripts script R0 R sessions w task a b u z (Ok done) counts shape e built m h bound f same cause = run_done meaning scripts script R0 R sessions w task a b z shape e built m h bound f
+run_told meaning scripts script R0 R sessions w task a b u z (Err y) counts shape e built m h bound f same cause = run_fails meaning scripts script R0 R sessions w task a b (Ok z) y shape same.1 (ap (λ (t : Told). t.told) same.0 ∙ counts) (subst IsSoundFault (sym cause) tt) e m h
+
+-- what the session was at as its event began is told no more
+finishes_at : (w k n m : ℕ) (v : Turned) (own : Option ℕ) (d : ToldDoing) (s t : Told) (T U : List HistoryItem) → Finishes w k n m (record { turned = v; own = own }) (record { told = s.told; begins = s.begins; doing = d; own = s.own }) t T U → Finishes w k n m (record { turned = v; own = own }) s t T U
+finishes_at w k n m (turned.On e) own d s t T U h = h
+finishes_at w k n m (turned.Over outcome kept) own d s t T U h = h
+
+pub finishes_from : (w k n m : ℕ) (a : Acted) (d : ToldDoing) (s t : Told) (T U : List HistoryItem) (r : Result (Unit {0}) StoreFault) → OnOk r (Finishes w k n m a (record { told = s.told; begins = s.begins; doing = d; own = s.own }) t T U) → OnOk r (Finishes w k n m a s t T U)
+finishes_from w k n m a d s t T U (Ok done) h = finishes_at w k n m a.turned a.own d s t T U h
+finishes_from w k n m a d s t T U (Err f) h = tt
 
 pub owes_told : (w k n m : ℕ) (z : Acted) (s t : Told) (T U : List HistoryItem) (c : Changed) (d e : Dues) (r : Result (Unit {0}) StoreFault) → OnOk r (e ≡ noted_after c (is_some z.own) d) → OnOk r (Finishes w k n m z s t T U) → OnOk r (Owes d e t.own)
 owes_told w k n m z s t T U c d e (Ok u) h f = record { blocks = c; noted = h ∙ ap (λ (o : Option ℕ). noted_after c (is_some o) d) (sym (finished_own w k n m z.turned z.own s t T U f)) }

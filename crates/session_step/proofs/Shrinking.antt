@@ -8,3 +8,4 @@ none_is_shrinking p (told.Inserting t) o h = h
 none_is_shrinking p (told.TakingBack t) o h = h
 none_is_shrinking p (told.OnRow w) o h = h
 none_is_shrinking p told.Scanning o h = h
+none_is_shrinking p (told.Repairing w) o h = h

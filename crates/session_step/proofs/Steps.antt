@@ -56,6 +56,7 @@ busy_at p (told.Inserting o) ne e = absurd (cc e)
 busy_at p (told.TakingBack t) ne e = absurd (cc e)
 busy_at p (told.OnRow k) ne e = absurd (cc e)
 busy_at p told.Scanning ne e = absurd (cc e)
+busy_at p (told.Repairing w) ne e = absurd (cc e)
 
 is_waiting : (d : ToldDoing) → (d ≡ told.Waiting) ⊎ (d ≢ told.Waiting)
 is_waiting told.Waiting = inl refl
@@ -63,6 +64,7 @@ is_waiting (told.Inserting o) = inr (λ e. absurd (cc e))
 is_waiting (told.TakingBack t) = inr (λ e. absurd (cc e))
 is_waiting (told.OnRow k) = inr (λ e. absurd (cc e))
 is_waiting told.Scanning = inr (λ e. absurd (cc e))
+is_waiting (told.Repairing w) = inr (λ e. absurd (cc e))
 
 -- ---- the sessions are as they were
 

@@ -47,6 +47,7 @@ place_empty sh x st p told.Waiting i r h = h
 place_empty sh x st p (told.Inserting t) i r h = h
 place_empty sh x st p (told.TakingBack t) i r h = h
 place_empty sh x st p (told.OnRow w) i r h = h
+place_empty sh x st p (told.Repairing w) i r h = h
 place_empty sh x st p told.Scanning i r h = absurd (scans_never sh x st (scan_in p) i r.1)
 
 kept_to : (sh : Shape) (x : Span) (st : Option Statement) (p : Option TheScan) (v : Turned) → IsNoScan st → p ≡ None → TurnsTo sh x st v → IsKept p v
@@ -55,6 +56,7 @@ kept_to sh x st p (turned.On told.Waiting) i e h = e
 kept_to sh x st p (turned.On (told.Inserting t)) i e h = e
 kept_to sh x st p (turned.On (told.TakingBack t)) i e h = e
 kept_to sh x st p (turned.On (told.OnRow w)) i e h = e
+kept_to sh x st p (turned.On (told.Repairing w)) i e h = e
 kept_to sh x st p (turned.On told.Scanning) i e h = absurd (scans_never sh x st no_scan i h.fits)
 
 kept_ok : (sh : Shape) (x : Span) (st : Option Statement) (p : Option TheScan) (R : List Record) (r : Result Acted StoreFault) → IsNoScan st → p ≡ None → IfOk r (Turns sh x st R) → IfOk r (λ a. IsKept p a.turned)

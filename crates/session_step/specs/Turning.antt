@@ -16,6 +16,7 @@ use Rattle.scan_table.specs.declared.scan.OpenScan.{OpenScan}
 use Rattle.session_core.specs.declared.session.Doing.{Doing as Told}
 use Rattle.session_core.specs.declared.session.Doing.TheVariants as told
 use Rattle.session_core.specs.declared.session.RowWork.{RowWork as ToldWork}
+use Rattle.session_core.specs.declared.session.RepairWork.{RepairWork as ToldRepair}
 use Rattle.session_core.specs.declared.turned.Acted.{Acted}
 use Rattle.session_core.specs.Acked.{AcksTurned}
 use Rattle.session_core.specs.Acting.{IsAt}
@@ -28,7 +29,6 @@ use Rattle.session_step.specs.Stages.{IsHeld}
 -- a statement of which the events are built
 abbrev pub IsBuilt : Statement → Type 0
 IsBuilt (asked.Shrink name compact) = ⊥
-IsBuilt (asked.Repair name) = ⊥
 IsBuilt asked.Checkpoint = ⊥
 IsBuilt st = Unit {0}
 
@@ -63,6 +63,11 @@ inserting_in d = None
 abbrev pub work_in : Told → Option ToldWork
 work_in (told.OnRow w) = Some w
 work_in d = None
+
+-- the work of a repair that is under way
+abbrev pub repairing_in : Told → Option ToldRepair
+repairing_in (told.Repairing w) = Some w
+repairing_in d = None
 
 -- the transaction that is taken back
 abbrev pub backing_in : Told → Option ℕ

@@ -1,5 +1,5 @@
 // One event of what a session has next: of its statement, or of its end.
-ghost use Rattle.std.specs.Prelude.{◌≡◌, ◌≢◌, ◌≤◌, ℕ, List, Option, Some, None, slice_get};
+ghost use Rattle.std.specs.Prelude.{◌≡◌, ◌≢◌, ◌≤◌, ℕ, List, Option, Some, None, length, slice_get};
 ghost use Rattle.seg_words.specs.Types.{MOST_SESSIONS};
 ghost use Rattle.script_text.specs.declared.statement.Statement.{Statement as TheStatement};
 ghost use Rattle.script_text.specs.declared.statement.Statement.TheVariants as asked;
@@ -10,7 +10,7 @@ ghost use Rattle.scan_table.specs.declared.scan.OpenScan.{OpenScan as TheScan};
 ghost use Rattle.scan_table.specs.Places.{place};
 ghost use Rattle.session_core.specs.declared.session.Doing.{Doing as ToldDoing};
 ghost use Rattle.session_core.specs.Acting.{HasActed, HasCalled};
-ghost use Rattle.session_step.specs.Turning.{HasTurned, IsBuilt, IsTurnOf, backing_in};
+ghost use Rattle.session_step.specs.Turning.{HasTurned, IsBuilt, IsTurnOf, backing_in, repairing_in};
 
 use crate::binding::row_by;
 use crate::labels::Labels;
@@ -18,10 +18,10 @@ use crate::rows::{delete, insert, update};
 use disk_model::Disk;
 use scan_table::Scans;
 use script_text::Statement;
-use seg_base::{MOST_SESSIONS, Name, TxnId};
+use seg_base::{Lsn, MOST_SESSIONS, Name, TxnId};
 use session_core::{
-    Acted, Changed, Doing, commit_own, fix, go_on_scanning, make_table, roll_back, set_movement,
-    start_scan, take_back, tell_usage,
+    Acted, Changed, Doing, RepairWork, commit_own, fix, go_on_repairing, go_on_scanning,
+    make_table, roll_back, set_movement, start_repair, start_scan, take_back, tell_usage,
 };
 use std::alloc::Global;
 use store_core::{Store, StoreFault};
@@ -76,6 +76,35 @@ fn scan<D: Disk>(
     start_scan(alloc, scans, store, who, own, table)
 }
 
+/// The work of a repair that is under way.
+fn repairing_in(doing: Doing) -> Option<RepairWork>
+    ensures { result ≡ repairing_in doing }
+{
+    match doing {
+        Doing::Repairing(work) => Some(work),
+        _ => None,
+    }
+}
+
+/// `repair`, which began with so many records.
+fn repair<D: Disk>(
+    alloc: Global,
+    store: &mut Store<D>,
+    own: Option<TxnId>,
+    doing: Doing,
+    begins: Lsn,
+    table: &Name,
+) -> Result<Acted, StoreFault>
+    requires unspent { store.old.fault ≡ None }
+    ensures acted { (x : Span) (who : ℕ) (labels : List (List ℕ × ℕ)) (p : Option TheScan) → begins ≡ length x.begun → IsTurnOf D.meaning x (Some (asked.Repair table.now)) who own labels p doing store.old → HasActed D.meaning x (Some (asked.Repair table.now)) store.old store.new result }
+    ensures called { HasCalled D.meaning store.old store.new result }
+{
+    match repairing_in(doing) {
+        Some(work) => go_on_repairing(alloc, store, own, work, begins, table),
+        None => start_repair(alloc, store, own, table),
+    }
+}
+
 /// One event of a statement.
 fn act<D: Disk>(
     alloc: Global,
@@ -85,7 +114,8 @@ fn act<D: Disk>(
     statement: &Statement,
     who: u8,
     own: Option<TxnId>,
-    doing: &Doing,
+    doing: Doing,
+    begins: Lsn,
     hint: Option<u32>,
     changed: &mut Changed,
 ) -> Result<Acted, StoreFault>
@@ -94,7 +124,7 @@ fn act<D: Disk>(
     requires unspent { store.old.fault ≡ None }
     requires spelled { IsSpelled statement.now }
     requires built { IsBuilt statement.now }
-    ensures turned { (x : Span) → IsTurnOf D.meaning x (Some statement.now) who own labels.now (place who scans.old) doing.now store.old → HasTurned D.meaning x (Some statement.now) (place who scans.new) store.old store.new result }
+    ensures turned { (x : Span) → begins ≡ length x.begun → IsTurnOf D.meaning x (Some statement.now) who own labels.now (place who scans.old) doing store.old → HasTurned D.meaning x (Some statement.now) (place who scans.new) store.old store.new result }
     ensures called { HasCalled D.meaning store.old store.new result }
     ensures others { (v : ℕ) → 1 ≤ v → v ≢ who → place v scans.new ≡ place v scans.old }
 {
@@ -103,7 +133,7 @@ fn act<D: Disk>(
         Statement::Movement { table, on } => set_movement(alloc, store, own, None, table, *on),
         Statement::Insert { table, label, text } => {
             let _ = label;
-            insert(alloc, store, who, own, doing, table, text, hint, changed)
+            insert(alloc, store, who, own, &doing, table, text, hint, changed)
         }
         Statement::Update {
             table,
@@ -112,15 +142,17 @@ fn act<D: Disk>(
         } => {
             let bound = row_by(labels, target);
             update(
-                alloc, store, who, own, doing, table, target, bound, text, hint, changed,
+                alloc, store, who, own, &doing, table, target, bound, text, hint, changed,
             )
         }
         Statement::Delete { table, target } => {
             let bound = row_by(labels, target);
-            delete(alloc, store, who, own, doing, table, target, bound, changed)
+            delete(
+                alloc, store, who, own, &doing, table, target, bound, changed,
+            )
         }
         Statement::Commit => commit_own(store, own),
-        Statement::Rollback => roll(alloc, store, own, doing, changed),
+        Statement::Rollback => roll(alloc, store, own, &doing, changed),
         Statement::Scan { table } => scan(alloc, store, scans, who, own, table),
         Statement::Usage { table } => tell_usage(alloc, store, own, table),
         Statement::Fix {
@@ -128,9 +160,8 @@ fn act<D: Disk>(
             block,
             value,
         } => fix(alloc, store, own, table, *block, *value),
-        Statement::Shrink { .. } | Statement::Repair { .. } | Statement::Checkpoint => {
-            Err(StoreFault::NoMemory)
-        }
+        Statement::Repair { table } => repair(alloc, store, own, doing, begins, table),
+        Statement::Shrink { .. } | Statement::Checkpoint => Err(StoreFault::NoMemory),
     }
 }
 
@@ -144,7 +175,8 @@ pub fn act_next<D: Disk>(
     told: usize,
     who: u8,
     own: Option<TxnId>,
-    doing: &Doing,
+    doing: Doing,
+    begins: Lsn,
     hint: Option<u32>,
     changed: &mut Changed,
 ) -> Result<Acted, StoreFault>
@@ -153,14 +185,14 @@ pub fn act_next<D: Disk>(
     requires unspent { store.old.fault ≡ None }
     requires spelled { (i : ℕ) (st : TheStatement) → slice_get script.now i ≡ Some st → IsSpelled st }
     requires built { (i : ℕ) (st : TheStatement) → slice_get script.now i ≡ Some st → IsBuilt st }
-    ensures turned { (x : Span) → (slice_get script.now told ≡ None → own ≡ None → ⊥) → IsTurnOf D.meaning x (slice_get script.now told) who own labels.now (place who scans.old) doing.now store.old → HasTurned D.meaning x (slice_get script.now told) (place who scans.new) store.old store.new result }
+    ensures turned { (x : Span) → begins ≡ length x.begun → (slice_get script.now told ≡ None → own ≡ None → ⊥) → IsTurnOf D.meaning x (slice_get script.now told) who own labels.now (place who scans.old) doing store.old → HasTurned D.meaning x (slice_get script.now told) (place who scans.new) store.old store.new result }
     ensures called { HasCalled D.meaning store.old store.new result }
     ensures others { (v : ℕ) → 1 ≤ v → v ≢ who → place v scans.new ≡ place v scans.old }
 {
     match script.get(told) {
         Some(statement) => act(
-            alloc, store, scans, labels, statement, who, own, doing, hint, changed,
+            alloc, store, scans, labels, statement, who, own, doing, begins, hint, changed,
         ),
-        None => roll(alloc, store, own, doing, changed),
+        None => roll(alloc, store, own, &doing, changed),
     }
 }

@@ -26,8 +26,9 @@ use history_model::HistoryItem;
 use scan_table::Scans;
 use script_text::Statement;
 use seg_base::{Lsn, MOST_SESSIONS, Newest};
-use session_core::{Acted, Changed, Dues};
+use session_core::{Acted, Changed, Doing, Dues};
 use std::alloc::Global;
+use std::mem;
 use store_core::{Store, StoreFault};
 
 /// The statement goes on, or its entry is told.
@@ -134,6 +135,7 @@ fn run_statement<D: Disk>(
     ensures ends { Ends session.old.told history.old session.new.told history.new }
 {
     let mut changed = Changed::none();
+    let doing = mem::replace(&mut session.doing, Doing::Waiting);
     let acted = act_next(
         alloc,
         store,
@@ -143,7 +145,8 @@ fn run_statement<D: Disk>(
         session.told,
         who,
         session.own,
-        &session.doing,
+        doing,
+        session.begins,
         hint,
         &mut changed,
     );

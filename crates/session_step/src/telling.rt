@@ -8,6 +8,17 @@ use history_text::Entry;
 use seg_base::{Lsn, Newest, NoMemory};
 use session_core::{Acted, Doing, Turned};
 
+/// Whether nothing is under way.
+fn is_waiting(doing: &Doing) -> bool
+    ensures waits { result ≡ true → doing.now ≡ Doing.Waiting }
+    ensures busy { result ≡ false → doing.now ≢ Doing.Waiting }
+{
+    match doing {
+        Doing::Waiting => true,
+        _ => false,
+    }
+}
+
 /// The start of a session's next statement is told, unless one is under way. False where nothing is left of the session.
 pub fn begin(
     history: &mut Newest<HistoryItem>,
@@ -24,11 +35,8 @@ pub fn begin(
     ensures begins { Begins history.old history.new }
     ensures failed { OnErr result ((session.new ≡ session.old) × (history.new ≡ history.old)) }
 {
-    match session.doing {
-        Doing::Inserting(_) | Doing::TakingBack(_) | Doing::OnRow(_) | Doing::Scanning => {
-            return Ok(true);
-        }
-        Doing::Waiting => {}
+    if !is_waiting(&session.doing) {
+        return Ok(true);
     }
     if session.told >= statements && session.own.is_none() {
         return Ok(false);

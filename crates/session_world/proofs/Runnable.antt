@@ -35,7 +35,7 @@ open_built (asked.Scan table) e = tt
 open_built (asked.Shrink table compact) e = cc e
 open_built (asked.Usage table) e = tt
 open_built (asked.Fix table block value) e = tt
-open_built (asked.Repair table) e = cc e
+open_built (asked.Repair table) e = tt
 open_built asked.Checkpoint e = cc e
 
 script_runs : (script : List Statement) → AllByRecursion (IsStatement BUILT_FORMS) script → AreRunnable script

@@ -46,6 +46,7 @@ never_shrinks p (told.Inserting obj) o h = h
 never_shrinks p (told.TakingBack txn) o h = h
 never_shrinks p (told.OnRow work) o h = h
 never_shrinks p told.Scanning o h = h
+never_shrinks p (told.Repairing work) o h = h
 
 pub stands_at : {D : Type 0} (meaning : Meaning D) (scripts : List (List Statement)) (R0 R : List Record) (who : ℕ) (s : Held D) (run : Run) (t : Told) (dues : Dues) → IsSession scripts who → told_at run.seats.items who ≡ t → IsRunAt meaning scripts R0 R s run
     → StandsAt meaning scripts R0 R (seen_in run.seats.items run.scans) who (stage s run.history (place who run.scans) run.labels dues t)

@@ -9,10 +9,10 @@ use Rattle.session_step.proofs.Turns.{turned_as, turned_plain, turned_so}
 use Rattle.session_step.proofs.acting.act.Goals as goal
 
 pub returns-in-Table-clause-turned : goal.returns-in-Table-clause-turned
-returns-in-Table-clause-turned g c = λ x t.
+returns-in-Table-clause-turned g c = λ x b t.
     let M = g.D.Disk.meaning in
     let a = c.args.store.now in
-    let d = c.args.doing.now in
+    let d = c.args.doing in
     let p = place c.args.who c.args.scans.now in
     let l = c.args.labels.now in
     let st = asked.Table c.in-Table.name c.in-Table.pctfree in
@@ -22,10 +22,10 @@ returns-in-Table-clause-turned g c = λ x t.
     (c.make_table.ensures.acted x u.at (once_starts M x c.args.who c.args.own l p d a st tt u)))
 
 pub returns-in-Movement-clause-turned : goal.returns-in-Movement-clause-turned
-returns-in-Movement-clause-turned g c = λ x t.
+returns-in-Movement-clause-turned g c = λ x b t.
     let M = g.D.Disk.meaning in
     let a = c.args.store.now in
-    let d = c.args.doing.now in
+    let d = c.args.doing in
     let p = place c.args.who c.args.scans.now in
     let l = c.args.labels.now in
     let st = asked.Movement c.in-Movement.table c.in-Movement.on in
@@ -35,10 +35,10 @@ returns-in-Movement-clause-turned g c = λ x t.
     (c.set_movement.ensures.acted x u.at (once_starts M x c.args.who c.args.own l p d a st tt u) (λ v h. (once_fresh M x c.args.who c.args.own l p d a st tt u).unshrunk c.in-Movement.table v h)))
 
 pub returns-in-Insert-clause-turned : goal.returns-in-Insert-clause-turned
-returns-in-Insert-clause-turned g c = λ x t.
+returns-in-Insert-clause-turned g c = λ x b t.
     let M = g.D.Disk.meaning in
     let a = c.args.store.now in
-    let d = c.args.doing.now in
+    let d = c.args.doing in
     let p = place c.args.who c.args.scans.now in
     let l = c.args.labels.now in
     let st = asked.Insert c.in-Insert.table c.in-Insert.label c.in-Insert.text in
@@ -48,10 +48,10 @@ returns-in-Insert-clause-turned g c = λ x t.
     (c.insert.ensures.acted x c.in-Insert.label l p (insert_size c.args.statement.now c.in-Insert.table c.in-Insert.label c.in-Insert.text c.in-Insert.is c.requires.spelled) u))
 
 pub returns-in-Update-clause-turned : goal.returns-in-Update-clause-turned
-returns-in-Update-clause-turned g c = λ x t.
+returns-in-Update-clause-turned g c = λ x b t.
     let M = g.D.Disk.meaning in
     let a = c.args.store.now in
-    let d = c.args.doing.now in
+    let d = c.args.doing in
     let p = place c.args.who c.args.scans.now in
     let l = c.args.labels.now in
     let st = asked.Update c.in-Update.table c.in-Update.target c.in-Update.text in
@@ -61,10 +61,10 @@ returns-in-Update-clause-turned g c = λ x t.
     (c.update.ensures.acted x l p (update_size c.args.statement.now c.in-Update.table c.in-Update.target c.in-Update.text c.in-Update.is c.requires.spelled) c.row_by-bound.ensures u))
 
 pub returns-in-Delete-clause-turned : goal.returns-in-Delete-clause-turned
-returns-in-Delete-clause-turned g c = λ x t.
+returns-in-Delete-clause-turned g c = λ x b t.
     let M = g.D.Disk.meaning in
     let a = c.args.store.now in
-    let d = c.args.doing.now in
+    let d = c.args.doing in
     let p = place c.args.who c.args.scans.now in
     let l = c.args.labels.now in
     let st = asked.Delete c.in-Delete.table c.in-Delete.target in
@@ -74,10 +74,10 @@ returns-in-Delete-clause-turned g c = λ x t.
     (c.delete.ensures.acted x l p c.row_by-bound-in-Delete.ensures u))
 
 pub returns-in-Commit-clause-turned : goal.returns-in-Commit-clause-turned
-returns-in-Commit-clause-turned g c = λ x t.
+returns-in-Commit-clause-turned g c = λ x b t.
     let M = g.D.Disk.meaning in
     let a = c.args.store.now in
-    let d = c.args.doing.now in
+    let d = c.args.doing in
     let p = place c.args.who c.args.scans.now in
     let l = c.args.labels.now in
     let st = asked.Commit in
@@ -88,10 +88,10 @@ returns-in-Commit-clause-turned g c = λ x t.
     (c.commit_own.ensures.acked x u.at (once_starts M x c.args.who c.args.own l p d a st tt u)))
 
 pub returns-in-Rollback-clause-turned : goal.returns-in-Rollback-clause-turned
-returns-in-Rollback-clause-turned g c = λ x t.
+returns-in-Rollback-clause-turned g c = λ x b t.
     let M = g.D.Disk.meaning in
     let a = c.args.store.now in
-    let d = c.args.doing.now in
+    let d = c.args.doing in
     let p = place c.args.who c.args.scans.now in
     let l = c.args.labels.now in
     let st = asked.Rollback in
@@ -101,10 +101,10 @@ returns-in-Rollback-clause-turned g c = λ x t.
     (c.roll.ensures.acted x (Some st) c.args.who l p tt (λ z. none_some _ _ (sym z)) u))
 
 pub returns-in-Scan-clause-turned : goal.returns-in-Scan-clause-turned
-returns-in-Scan-clause-turned g c = λ x t.
+returns-in-Scan-clause-turned g c = λ x b t.
     let M = g.D.Disk.meaning in
     let a = c.args.store.now in
-    let d = c.args.doing.now in
+    let d = c.args.doing in
     let p = place c.args.who c.args.scans.now in
     let l = c.args.labels.now in
     let st = asked.Scan c.in-Scan.table in
@@ -112,10 +112,10 @@ returns-in-Scan-clause-turned g c = λ x t.
     turned_as M x c.args.statement.now st (place c.args.who c.scan.new.scans) a c.scan.new.store c.scan.result c.in-Scan.is (c.scan.ensures.turned x l d u)
 
 pub returns-in-Usage-clause-turned : goal.returns-in-Usage-clause-turned
-returns-in-Usage-clause-turned g c = λ x t.
+returns-in-Usage-clause-turned g c = λ x b t.
     let M = g.D.Disk.meaning in
     let a = c.args.store.now in
-    let d = c.args.doing.now in
+    let d = c.args.doing in
     let p = place c.args.who c.args.scans.now in
     let l = c.args.labels.now in
     let st = asked.Usage c.in-Usage.table in
@@ -125,10 +125,10 @@ returns-in-Usage-clause-turned g c = λ x t.
     (c.tell_usage.ensures.acted x u.at (once_starts M x c.args.who c.args.own l p d a st tt u)))
 
 pub returns-in-Fix-clause-turned : goal.returns-in-Fix-clause-turned
-returns-in-Fix-clause-turned g c = λ x t.
+returns-in-Fix-clause-turned g c = λ x b t.
     let M = g.D.Disk.meaning in
     let a = c.args.store.now in
-    let d = c.args.doing.now in
+    let d = c.args.doing in
     let p = place c.args.who c.args.scans.now in
     let l = c.args.labels.now in
     let st = asked.Fix c.in-Fix.table c.in-Fix.block c.in-Fix.value in
@@ -136,6 +136,19 @@ returns-in-Fix-clause-turned g c = λ x t.
     turned_as M x c.args.statement.now st p a c.fix.new.store c.fix.result c.in-Fix.is
     (turned_plain M x (Some st) c.args.who c.args.own l p d a c.fix.new.store c.fix.result tt tt u
     (c.fix.ensures.acted x u.at (once_starts M x c.args.who c.args.own l p d a st tt u)))
+
+pub returns-in-Repair-clause-turned : goal.returns-in-Repair-clause-turned
+returns-in-Repair-clause-turned g c = λ x b t.
+    let M = g.D.Disk.meaning in
+    let a = c.args.store.now in
+    let d = c.args.doing in
+    let p = place c.args.who c.args.scans.now in
+    let l = c.args.labels.now in
+    let st = asked.Repair c.in-Repair.table in
+    let u = turn_as M x c.args.who c.args.own l p d a c.args.statement.now st c.in-Repair.is t in
+    turned_as M x c.args.statement.now st p a c.repair.new.store c.repair.result c.in-Repair.is
+    (turned_plain M x (Some st) c.args.who c.args.own l p d a c.repair.new.store c.repair.result tt tt u
+    (c.repair.ensures.acted x c.args.who l p b u))
 
 pub insert-requires-clause-size : goal.insert-requires-clause-size
 insert-requires-clause-size g c = (insert_size c.args.statement.now c.in-Insert.table c.in-Insert.label c.in-Insert.text c.in-Insert.is c.requires.spelled).most

@@ -4,8 +4,8 @@ use Rattle.history_model.specs.declared.history.HistoryItem.{HistoryItem}
 use Rattle.session_step.specs.Telling.{Begins, begins_none, begins_one}
 use Rattle.session_step.proofs.telling.begin.Goals as goal
 
-pub returns-in-Inserting-clause-begins : goal.returns-in-Inserting-clause-begins
-returns-in-Inserting-clause-begins c = begins_none
+pub returns-then-not-is_waiting-clause-begins : goal.returns-then-not-is_waiting-clause-begins
+returns-then-not-is_waiting-clause-begins c = begins_none
 
 pub returns-then-is_none-clause-begins : goal.returns-then-is_none-clause-begins
 returns-then-is_none-clause-begins c = begins_none

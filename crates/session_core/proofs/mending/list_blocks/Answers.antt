@@ -1,0 +1,19 @@
+use Rattle.std.specs.Prelude.{◌≡◌, Some, List, ℕ}
+use Rattle.std.proofs.Common.{sym, subst}
+use Rattle.redo_model.specs.Model.{table_named}
+use Rattle.script_text.specs.declared.statement.Statement.TheVariants as asked
+use Rattle.session_core.specs.Acting.{HasActed}
+use Rattle.session_core.proofs.Calls.{acted_memory, called_memory}
+use Rattle.session_core.proofs.mending.list_blocks.Goals as goal
+
+pub returns-in-Ok-clause-acted : goal.returns-in-Ok-clause-acted
+returns-in-Ok-clause-acted g c = λ x at st t few.
+    let e = c.in-Ok.ensures in
+    subst (λ (z : List ℕ). HasActed g.D.Disk.meaning x (Some (asked.Repair z)) c.args.store.now c.list_named.new.store c.list_named.result) e
+    (c.list_named.ensures.acted x at st (subst (λ (z : List ℕ). table_named x.ended z ≡ Some c.args.obj) (sym e) t) few)
+
+pub returns-in-Err-clause-acted : goal.returns-in-Err-clause-acted
+returns-in-Err-clause-acted g c = λ x at st t few. acted_memory g.D.Disk.meaning x _ c.args.own c.args.store.now at
+
+pub returns-in-Err-clause-called : goal.returns-in-Err-clause-called
+returns-in-Err-clause-called g c = called_memory g.D.Disk.meaning c.args.store.now c.requires.unspent

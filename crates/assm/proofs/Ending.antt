@@ -62,7 +62,7 @@ raised_before moment a all m false e lt = absurd (omega (arith, ltb-false m mome
 
 module _ {D : Type 0} (meaning : Meaning D) where
   -- what a crash leaves of a store, as the files and the shape with which the run began have it
-  left_over : (since : ℕ) (needed : ℕ → ℕ) (R : List Record) (b : Held D) (disk' : D) (sh : Shape) (data_bytes : List ℕ) → b.disk ≡ disk' → b.shape ≡ sh → (meaning.files b.first).data_bytes ≡ data_bytes → Survives meaning since needed R b → Always meaning since disk' (λ m image. IsLeft sh data_bytes R (needed m) image)
+  pub left_over : (since : ℕ) (needed : ℕ → ℕ) (R : List Record) (b : Held D) (disk' : D) (sh : Shape) (data_bytes : List ℕ) → b.disk ≡ disk' → b.shape ≡ sh → (meaning.files b.first).data_bytes ≡ data_bytes → Survives meaning since needed R b → Always meaning since disk' (λ m image. IsLeft sh data_bytes R (needed m) image)
   left_over since needed R b disk' sh data_bytes d s f h =
       subst (λ (x : D). Always meaning since x (λ m image. IsLeft sh data_bytes R (needed m) image)) d
       (subst (λ (x : List ℕ). Always meaning since b.disk (λ m image. IsLeft sh x R (needed m) image)) f

@@ -1,4 +1,5 @@
 pub mod Told
-pub mod WordsLemmas
 pub mod Ending
 pub mod Made
+pub mod Asked
+pub mod Counted

@@ -2,3 +2,4 @@ pub mod Status
 pub mod Words
 pub mod Top
 pub mod Ends
+pub mod Checks

@@ -1,12 +1,15 @@
 //! The program: makes a store, and runs scripts of sessions over it.
 #![tactic(auto)]
 
+mod asking;
+mod checking;
 mod making;
 mod run;
 mod status;
 #[cfg(test)]
 mod tests;
 mod top;
+mod usage;
 mod words;
 
 use disk_host::Host;
@@ -18,6 +21,7 @@ use std::io::ErrorKind;
 use std::process::ExitCode;
 use text_port::{Stdin, Stdout};
 use top::run_program;
+use usage::usage_text;
 
 /// The words after the program's name. A word that is no text is none of ours.
 fn own_words<R: Env + AllocGlobal>(rt: &R) -> Result<Vec<String>, Status> {
@@ -67,6 +71,11 @@ fn main(rt: HostRuntime) -> ExitCode {
     if status != Status::Done {
         let line = StatusLine { status };
         let _ = eprintln!(rt; "{line}");
+    }
+    if status == Status::BadWords {
+        if let Ok(text) = usage_text(rt.alloc()) {
+            let _ = eprint!(rt; "{text}");
+        }
     }
     if let Some(cause) = cause {
         let _ = match cause.line(rt.alloc()) {

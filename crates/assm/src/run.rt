@@ -19,7 +19,7 @@ use store_core::{Loaded, Store, StoreFault};
 use text_port::Sink;
 
 // The store's loan ends here.
-fn give_back<D>(_disk: &mut D)
+pub fn give_back<D>(_disk: &mut D)
     ensures { _disk.new ≡ _disk.old }
 {}
 
@@ -49,7 +49,7 @@ fn run_read<D: Disk, K: Sink>(
 }
 
 /// The status of a store that failed. A page that isn't what an event needed is told by its first byte, as an opening does.
-fn status_of_store<D: Disk>(disk: &mut D, fault: StoreFault) -> Status
+pub fn status_of_store<D: Disk>(disk: &mut D, fault: StoreFault) -> Status
     ensures stops { StopsAs D.meaning disk.old disk.new fault result }
     ensures later { D.meaning.fault_count disk.old ≤ D.meaning.fault_count disk.new }
     ensures device { result ≡ Status.DeviceFault → (fault ≡ faults.DeviceFault → ⊥) → Rose (D.meaning.fault_count disk.old) (D.meaning.fault_count disk.new) }

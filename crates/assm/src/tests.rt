@@ -110,9 +110,12 @@ fn scripts_print_their_entries(rt: HostRuntime) -> Result<(), Fail> {
 #[test]
 fn words_and_scripts_are_refused(rt: HostRuntime) -> Result<(), Fail> {
     let bad = |line, why| Status::BadScript { line, why };
-    let cases: [(&[&str], &[u8], Status); 7] = [
+    let cases: [(&[&str], &[u8], Status); 10] = [
         (&[], ROW, Status::BadWords),
         (&["run", "now"], ROW, Status::BadWords),
+        (&["usage", "-t"], ROW, Status::BadWords),
+        (&["repair"], ROW, Status::BadWords),
+        (&["check", "t"], ROW, Status::BadWords),
         (&["format", "63", "8", "2"], ROW, Status::BadWords),
         (&["format", "064", "8", "2"], ROW, Status::BadWords),
         (&RUN, b"table t 10\n", bad(1, Why::SessionOrder)),
@@ -263,9 +266,24 @@ fn a_store_is_full_and_takes_a_row_again(rt: HostRuntime) -> Result<(), Fail> {
 fn a_store_is_made_once_and_keeps_its_rows(rt: HostRuntime) -> Result<(), Fail> {
     let mut disk = made(&rt, rt.alloc())?;
     call(&rt, rt.alloc(), &RUN, &mut disk, ROW, u64::MAX)?;
-    let cases: [(&[&str], Status, &[u8]); 2] = [
+    let cases: [(&[&str], Status, &[u8]); 5] = [
         (&FORMAT, Status::AlreadyFormatted, b""),
+        (
+            &["check"],
+            Status::Done,
+            b"records 9 commits 1 tables 1 inexact 0\n",
+        ),
         (&RUN, Status::Done, b"1.1 scan t at 1 rows 1\n  1 hello\n"),
+        (
+            &["usage", "t"],
+            Status::Done,
+            b"1.1 usage t unformatted 3 fs1 0 fs2 0 fs3 0 fs4 1 full 0 low 0 high 4 extents 1\n  bytes 12288 0 0 0 4096 0\n",
+        ),
+        (
+            &["repair", "t"],
+            Status::Done,
+            b"1.1 repaired t changed 0\n",
+        ),
     ];
     for (words, status, text) in cases {
         check(

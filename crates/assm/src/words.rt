@@ -1,16 +1,21 @@
 // The words of the command line.
 ghost use Rattle.std.specs.Prelude.{◌≡◌, IfSome, true, map, string_bytes};
 ghost use Rattle.seg_words.specs.Types.{is_shape};
-ghost use Rattle.assm.specs.Words.{command_in, shape_in, IsWithin};
+ghost use Rattle.assm.specs.Words.{command_in, of_shape, of_table, shape_in, single, table_in, IsWithin};
 
 use script_text::number;
-use seg_base::{MOST_BLOCKS, MOST_EXTENT_BLOCKS, MOST_UNDO_BLOCKS, Shape};
+use seg_base::{MOST_BLOCKS, MOST_EXTENT_BLOCKS, MOST_UNDO_BLOCKS, Shape, is_name};
 
 /// What the words ask for.
 #[derive(Clone, Copy, Debug, Drop)]
 pub enum Command {
     Format(Shape),
     Run,
+    /// The usage of the table that the second word names.
+    Usage,
+    /// Its repair.
+    Repair,
+    Check,
 }
 
 /// The shape that three numbers state, where it is within the limits.
@@ -33,17 +38,70 @@ fn shape_in(blocks: &[u8], extent: &[u8], undo: &[u8]) -> Option<Shape>
     }
 }
 
+/// A command of one word.
+fn single(word: &[u8]) -> Option<Command>
+    ensures { result ≡ single word.now }
+{
+    if word == b"run".as_slice() {
+        return Some(Command::Run);
+    }
+    if word == b"check".as_slice() {
+        return Some(Command::Check);
+    }
+    None
+}
+
+/// A command of a word and a table's name.
+fn of_table(word: &[u8], table: &[u8]) -> Option<Command>
+    ensures { result ≡ of_table word.now table.now }
+{
+    if !is_name(table) {
+        return None;
+    }
+    if word == b"usage".as_slice() {
+        return Some(Command::Usage);
+    }
+    if word == b"repair".as_slice() {
+        return Some(Command::Repair);
+    }
+    None
+}
+
+/// A command of a word and a store's shape.
+fn of_shape(word: &[u8], blocks: &[u8], extent: &[u8], undo: &[u8]) -> Option<Command>
+    ensures value { result ≡ of_shape word.now blocks.now extent.now undo.now }
+    ensures within { IfSome result IsWithin }
+{
+    if word != b"format".as_slice() {
+        return None;
+    }
+    Some(Command::Format(shape_in(blocks, extent, undo)?))
+}
+
 /// What the words ask for. None exactly where they are not in the list of commands, with their ranges.
 pub fn command_in(words: &[String]) -> Option<Command>
     ensures value { result ≡ command_in (map string_bytes words.now) }
     ensures within { IfSome result IsWithin }
 {
     match words {
-        [word] if word.as_bytes() == b"run".as_slice() => Some(Command::Run),
-        [word, blocks, extent, undo] if word.as_bytes() == b"format".as_slice() => {
-            let shape = shape_in(blocks.as_bytes(), extent.as_bytes(), undo.as_bytes())?;
-            Some(Command::Format(shape))
-        }
+        [word] => single(word.as_bytes()),
+        [word, table] => of_table(word.as_bytes(), table.as_bytes()),
+        [word, blocks, extent, undo] => of_shape(
+            word.as_bytes(),
+            blocks.as_bytes(),
+            extent.as_bytes(),
+            undo.as_bytes(),
+        ),
         _ => None,
+    }
+}
+
+/// The second of two words.
+pub fn table_in(words: &[String]) -> &[u8]
+    ensures { result.now ≡ table_in (map string_bytes words.now) }
+{
+    match words {
+        [_, table] => table.as_bytes(),
+        _ => b"",
     }
 }

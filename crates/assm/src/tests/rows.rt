@@ -132,7 +132,7 @@ const USAGE: &[u8] =
     b"session 1\ntable t 25\ninsert t @a {1472x}\ninsert t @b {1472x}\nusage t\ninsert t @c y\nusage t\ncommit\n";
 
 const FIX: &[u8] =
-    b"session 1\ntable t 10\ninsert t @a hello\ncommit\nfix t 43 1\ninsert t @b world\nusage t\nfix t 43 6\nfix t 39\ncommit\n";
+    b"session 1\ntable t 10\ninsert t @a hello\ncommit\nfix t 43 1\ninsert t @b world\nusage t\nrepair t\nusage t\nfix t 43 6\nfix t 39\ncommit\nrepair u\n";
 
 #[test]
 fn rows_move_and_blocks_are_counted(rt: HostRuntime) -> Result<(), Fail> {
@@ -147,7 +147,27 @@ fn rows_move_and_blocks_are_counted(rt: HostRuntime) -> Result<(), Fail> {
         ),
         (
             FIX,
-            b"1.4 fixed 43 full\n1.5 inserted 2\n1.6 usage t unformatted 2 fs1 0 fs2 0 fs3 0 fs4 1 full 1 low 0 high 4 extents 1\n  bytes 8192 0 0 0 4096 4096\n1.7 refused bad value 6\n1.8 refused not a data block 39\n1.9 committed 2\n",
+            b"1.4 fixed 43 full\n1.5 inserted 2\n1.6 usage t unformatted 2 fs1 0 fs2 0 fs3 0 fs4 1 full 1 low 0 high 4 extents 1\n  bytes 8192 0 0 0 4096 4096\n1.7 repaired t changed 1\n1.8 usage t unformatted 2 fs1 0 fs2 0 fs3 0 fs4 2 full 0 low 0 high 4 extents 1\n  bytes 8192 0 0 0 8192 0\n1.9 refused bad value 6\n1.10 refused not a data block 39\n1.11 committed 2\n1.12 refused no table\n",
+        ),
+    ];
+    for (script, last) in cases {
+        ends(&rt, rt.alloc(), "2", script, last)?;
+    }
+    Ok(())
+}
+
+/// A repair lists one block in its first event and settles it in its second, so that the other session's end of a transaction stands
+/// before or after it by the schedule.
+#[test]
+fn a_repair_settles_a_block_an_event(rt: HostRuntime) -> Result<(), Fail> {
+    let cases: [(&[u8], &[u8]); 2] = [
+        (
+            b"session 1\ntable t 10\ninsert t @a hello\ncommit\ncommit\nsession 2\nrepair t\nschedule 1x5 2x2 1x2\n",
+            b"1.3 committed 1\n2.1 repaired t changed 0\n1.4 nothing to commit\n",
+        ),
+        (
+            b"session 1\ntable t 10\ninsert t @a hello\ncommit\ncommit\nsession 2\nrepair t\nschedule 1x5 2 1x2 2\n",
+            b"1.3 committed 1\n1.4 nothing to commit\n2.1 repaired t changed 0\n",
         ),
     ];
     for (script, last) in cases {

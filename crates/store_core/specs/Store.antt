@@ -1,8 +1,8 @@
 -- A store: the disk that it was lent, its redo list, and the pages of its blocks, which are the fold of that list. Lists of
 -- records are the newest first.
-use Rattle.std.specs.Prelude.{◌≡◌, ◌↔◌, ℕ, ◌^◌, ◌<◌, ◌≤◌, length, nat_lt, eqb, not, Bool, ◌&&◌, ◌||◌, true, List, [], Option, None}
+use Rattle.std.specs.Prelude.{◌≡◌, ◌↔◌, ℕ, ◌^◌, ◌-◌, ◌<◌, ◌≤◌, length, nat_lt, eqb, not, Bool, ◌&&◌, ◌||◌, true, List, [], Option, None}
 use Rattle.std.specs.Borrow.{GName}
-use Rattle.seg_words.specs.Types.{Shape, is_shape}
+use Rattle.seg_words.specs.Types.{CHECKPOINT_BLOCK, DOUBLE_WRITE_BLOCK, OWN_BLOCKS, Shape, is_shape}
 use Rattle.disk_model.specs.Crash.{Meaning}
 use Rattle.log_frame.specs.Ready.{IsReady}
 use Rattle.redo_model.specs.Records.{Record}
@@ -60,7 +60,7 @@ pub record IsTrue {D : Type 0} (meaning : Meaning D) (R : List Record) (s : Held
 
 -- a block whose page a store gives: one of its blocks but the checkpoint and the double-write area
 abbrev pub has_page : Shape → ℕ → Bool
-has_page sh d = nat_lt d sh.blocks && not (eqb d 0) && (nat_lt d 4 || nat_lt 36 d)
+has_page sh d = nat_lt d sh.blocks && not (eqb d CHECKPOINT_BLOCK) && (nat_lt d DOUBLE_WRITE_BLOCK || nat_lt (OWN_BLOCKS - 1) d)
 
 -- the block's page was found, and can be lent
 pub record IsFetched {D : Type 0} (d : ℕ) (s : Held D) : Type 0 where

@@ -10,13 +10,15 @@ use crate::{Store, StoreFault};
 use disk_model::Disk;
 use page_map::Pages;
 use page_set::Page;
-use seg_base::{Dba, Shape};
+use seg_base::{CHECKPOINT_BLOCK, DOUBLE_WRITE_BLOCK, Dba, OWN_BLOCKS, Shape};
 
 // That the store gives a page of the block.
 fn has_page(shape: &Shape, dba: Dba) -> bool
     ensures { result ≡ is_page shape.now dba }
 {
-    dba.0 < shape.blocks && dba.0 != 0 && (dba.0 < 4 || dba.0 > 36)
+    dba.0 < shape.blocks
+        && dba.0 != CHECKPOINT_BLOCK
+        && (dba.0 < DOUBLE_WRITE_BLOCK || dba.0 > OWN_BLOCKS - 1)
 }
 
 // That the page of the block is there.

@@ -123,7 +123,7 @@ has_holder R u = elim (undo_holder R u) [ None ↦ false | Some t ↦ true ]
 
 -- the undo blocks in ring order after block u
 abbrev pub ring_after : Shape → ℕ → List ℕ
-ring_after sh u = blocks_from (suc u) (OWN_BLOCKS + sh.undo - suc u) ++ blocks_from OWN_BLOCKS (u - OWN_BLOCKS)
+ring_after sh u = blocks_from (suc u) (OWN_BLOCKS - 1 + sh.undo - u) ++ blocks_from OWN_BLOCKS (u - OWN_BLOCKS)
 
 -- the block that is taken into use next: the first one after the current one that has no holder
 abbrev pub next_undo : Shape → List Record → Option ℕ

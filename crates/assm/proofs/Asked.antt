@@ -5,7 +5,7 @@ use Rattle.std.specs.Fmt.{digits}
 use Rattle.seg_words.proofs.Lemmas.{and_parts, cases_Bool}
 use Rattle.seg_words.specs.Types.{is_name, LONGEST_NAME}
 use Rattle.disk_model.specs.Types.{Meaning}
-use Rattle.script_text.specs.declared.form.TheConstants.{BUILT_FORMS}
+use Rattle.session_step.specs.declared.forms.TheConstants.{BUILT_FORMS}
 use Rattle.script_text.specs.declared.statement.Statement.{Statement}
 use Rattle.script_text.specs.declared.statement.Statement.TheVariants as asks
 use Rattle.script_text.specs.declared.why.Why.{Why}

@@ -13,7 +13,7 @@ use Rattle.store_core.specs.Survives.{IsSound, Survives}
 use Rattle.store_core.proofs.Prepared.{durable_settled}
 use Rattle.recovery.specs.Refused.{IsRead, IsRefused, IsLeftActive, IsSoundRefusal, Shows}
 use Rattle.recovery.specs.Opened.{IsOpened, Over, ReopensSince}
-use Rattle.script_text.specs.declared.form.TheConstants.{BUILT_FORMS}
+use Rattle.session_step.specs.declared.forms.TheConstants.{BUILT_FORMS}
 use Rattle.script_text.specs.declared.why.Why.{Why}
 use Rattle.script_text.specs.Script.{Script}
 use Rattle.script_text.specs.Grammar.{scripts_of}

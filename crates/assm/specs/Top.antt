@@ -14,7 +14,7 @@ use Rattle.store_files.specs.declared.fault.OpenFault.{OpenFault}
 use Rattle.store_core.specs.Survives.{IsSound, IsLeft}
 use Rattle.recovery.specs.Refused.{block_at, IsRead, IsRefused, IsLeftActive, IsSoundRefusal, Shows}
 use Rattle.recovery.specs.Opened.{ReopensSince}
-use Rattle.script_text.specs.declared.form.TheConstants.{BUILT_FORMS}
+use Rattle.session_step.specs.declared.forms.TheConstants.{BUILT_FORMS}
 use Rattle.script_text.specs.declared.why.Why.{Why}
 use Rattle.script_text.specs.Script.{Script}
 use Rattle.script_text.specs.Grammar.{scripts_of}

@@ -4,7 +4,7 @@ ghost use Rattle.seg_words.specs.Types.{Shape as TheShape, Rose};
 ghost use Rattle.disk_model.specs.Types.{Causes};
 ghost use Rattle.redo_model.specs.Records.{Record};
 ghost use Rattle.store_core.specs.declared.fault.StoreFault.TheVariants as faults;
-ghost use Rattle.script_text.specs.declared.form.TheConstants.{BUILT_FORMS};
+ghost use Rattle.session_step.specs.declared.forms.TheConstants.{BUILT_FORMS};
 ghost use Rattle.script_text.specs.Spelled.{IsScript};
 ghost use Rattle.assm.specs.Top.{RunTells};
 ghost use Rattle.assm.specs.Ends.{Begins, RunsTo, EndsAs, StopsAs, IsRunEnd};
@@ -13,6 +13,7 @@ use crate::status::Status;
 use disk_model::Disk;
 use recovery::{bad_page, recover};
 use script_text::{Scripts, parse};
+use session_step::BUILT_FORMS;
 use session_world::{RunFault, run_scripts};
 use std::alloc::Global;
 use store_core::{Loaded, Store, StoreFault};
@@ -94,7 +95,7 @@ pub fn run_text<D: Disk, K: Sink>(alloc: Global, disk: &mut D, text: &[u8], sink
     ensures device_fault { Causes D.meaning disk.old disk.new (result ≡ Status.DeviceFault) }
     ensures write_fault { result ≡ Status.WriteFault → Rose (K.fault_count sink.old) (K.fault_count sink.new) }
 {
-    let scripts = match parse(alloc, text) {
+    let scripts = match parse(alloc, &BUILT_FORMS, text) {
         Ok(scripts) => scripts,
         Err(fault) => return Status::from(fault),
     };

@@ -1,4 +1,4 @@
-// The forms of lines, and which of them are built.
+// The forms of lines.
 ghost use Rattle.std.specs.Prelude.{◌≡◌};
 ghost use Rattle.script_text.specs.Forms.{word_of, form_of, later_form_of, is_open};
 
@@ -36,18 +36,6 @@ pub struct Forms {
     pub repair: bool,
     pub checkpoint: bool,
 }
-
-/// What the store can run today: each form is opened here.
-pub const BUILT_FORMS: Forms = Forms {
-    sessions: true,
-    schedule: true,
-    flushes: false,
-    shrink: false,
-    usage: true,
-    fix: true,
-    repair: true,
-    checkpoint: false,
-};
 
 /// The whole grammar.
 pub const ALL_FORMS: Forms = Forms {

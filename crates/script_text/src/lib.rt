@@ -17,7 +17,7 @@ mod statement;
 mod tests;
 mod why;
 
-pub use form::{ALL_FORMS, BUILT_FORMS, Form, Forms};
+pub use form::{ALL_FORMS, Form, Forms};
 pub use laws::{one_spelling, scripts_are_spelled};
 pub use parsing::parse;
 pub use pieces::number;

@@ -6,7 +6,7 @@ ghost use Rattle.script_text.specs.Parsed.{Reads, Parses};
 ghost use Rattle.script_text.specs.Spelled.{IsScript};
 
 use crate::draft::{Draft, add_line};
-use crate::form::{ALL_FORMS, BUILT_FORMS, Forms};
+use crate::form::{ALL_FORMS, Forms};
 use crate::pieces::first_line;
 use crate::scripts::Scripts;
 use crate::why::{LineFault, ScriptFault};
@@ -65,22 +65,13 @@ fn read_lines(alloc: Global, forms: &Forms, text: &[u8]) -> Result<Draft, Script
     Ok(draft)
 }
 
-/// What the bytes spell where these forms are built, or the first bad line.
-pub(crate) fn parse_forms(alloc: Global, forms: &Forms, text: &[u8]) -> Result<Scripts, ScriptFault>
+/// What the bytes of a script spell where these forms are built, or its first bad line: for every script, and nothing else is refused
+/// but by want of memory. A line of a form that isn't built is no statement.
+pub fn parse(alloc: Global, forms: &Forms, text: &[u8]) -> Result<Scripts, ScriptFault>
     requires { length (lines text.now) < 2 ^ 32 }
     ensures read { Parses result (scripts_of forms.now text.now) }
     ensures built { IfOk result (λ scripts. IsScript forms.now scripts) }
 {
     let draft = read_lines(alloc, forms, text)?;
     Ok(into_scripts(draft)?)
-}
-
-/// What the bytes of a script spell, or its first bad line: for every script, and nothing else is refused but by want of
-/// memory. Lines of forms that aren't built yet are no statements.
-pub fn parse(alloc: Global, text: &[u8]) -> Result<Scripts, ScriptFault>
-    requires { length (lines text.now) < 2 ^ 32 }
-    ensures read { Parses result (scripts_of BUILT_FORMS text.now) }
-    ensures built { IfOk result (λ scripts. IsScript BUILT_FORMS scripts) }
-{
-    parse_forms(alloc, &BUILT_FORMS, text)
 }

@@ -1,17 +1,25 @@
 // Lines that are refused, each with its cause, and scripts as they are printed again.
-use crate::form::{ALL_FORMS, BUILT_FORMS, Forms};
-use crate::parsing::{parse, parse_forms};
+use crate::form::{ALL_FORMS, Forms};
+use crate::parsing::parse;
 use crate::printing::print;
 use crate::why::{ScriptFault, Why};
 use std::alloc::Global;
 use std::process::Abort;
 use std::test::Fail;
 
+/// Without shrinks, flushes and checkpoints.
+const SOME_FORMS: Forms = Forms {
+    flushes: false,
+    shrink: false,
+    checkpoint: false,
+    ..ALL_FORMS
+};
+
 /// Why the bytes are no script of these forms.
 #[tactic(auto, using(crate::proofs::Cuts::few_lines))]
 fn fault(rt: &impl Abort, alloc: Global, forms: &Forms, text: &[u8]) -> Option<ScriptFault> {
     assert!(rt; text.len() < 10_000);
-    match parse_forms(alloc, forms, text) {
+    match parse(alloc, forms, text) {
         Ok(_) => None,
         Err(fault) => Some(fault),
     }
@@ -109,7 +117,7 @@ fn lines_are_refused(rt: HostRuntime) -> Result<(), Fail> {
     let why = Why::NotAStatement;
     let expected = Some(ScriptFault::BadLine { line: 2, why });
     for text in CLOSED {
-        assert_eq!(rt; fault(&rt, rt.alloc(), &BUILT_FORMS, text), expected);
+        assert_eq!(rt; fault(&rt, rt.alloc(), &SOME_FORMS, text), expected);
     }
     let single = Forms {
         sessions: false,
@@ -129,14 +137,14 @@ fn rows_have_1800_bytes(rt: HostRuntime) -> Result<(), Fail> {
     for _ in 0..1800 {
         text.push(b'x')?;
     }
-    assert_eq!(rt; fault(&rt, rt.alloc(), &BUILT_FORMS, &text), None);
+    assert_eq!(rt; fault(&rt, rt.alloc(), &SOME_FORMS, &text), None);
     text.push(b'\n')?;
-    assert_eq!(rt; fault(&rt, rt.alloc(), &BUILT_FORMS, &text), None);
+    assert_eq!(rt; fault(&rt, rt.alloc(), &SOME_FORMS, &text), None);
     text.pop();
     text.push(b'x')?;
     let why = Why::RowTooLong;
     let expected = Some(ScriptFault::BadLine { line: 2, why });
-    assert_eq!(rt; fault(&rt, rt.alloc(), &BUILT_FORMS, &text), expected);
+    assert_eq!(rt; fault(&rt, rt.alloc(), &SOME_FORMS, &text), expected);
     Ok(())
 }
 
@@ -150,7 +158,7 @@ fn prints(
     printed: &[u8],
 ) -> Result<(), Fail> {
     assert!(rt; text.len() < 10_000);
-    let scripts = parse_forms(alloc, forms, text)?;
+    let scripts = parse(alloc, forms, text)?;
     assert_eq!(rt; print(alloc, &scripts)?.as_slice(), printed);
     Ok(())
 }
@@ -172,9 +180,9 @@ fn scripts_are_printed(rt: HostRuntime) -> Result<(), Fail> {
     prints(&rt, alloc, &ALL_FORMS, BUSY, BUSY)?;
     prints(&rt, alloc, &ALL_FORMS, FORMS, FORMS_PRINTED)?;
     prints(&rt, alloc, &ALL_FORMS, FORMS_PRINTED, FORMS_PRINTED)?;
-    prints(&rt, alloc, &BUILT_FORMS, BUSY, BUSY)?;
-    prints(&rt, alloc, &BUILT_FORMS, b"-- nothing", b"")?;
-    let scripts = parse(alloc, b"session 1\nscan t")?;
+    prints(&rt, alloc, &SOME_FORMS, BUSY, BUSY)?;
+    prints(&rt, alloc, &SOME_FORMS, b"-- nothing", b"")?;
+    let scripts = parse(alloc, &SOME_FORMS, b"session 1\nscan t")?;
     assert_eq!(rt; scripts.sessions().len(), 1);
     assert_eq!(rt; scripts.schedule().len(), 0);
     assert_eq!(rt;

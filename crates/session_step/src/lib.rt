@@ -4,6 +4,7 @@
 
 mod acting;
 mod binding;
+mod forms;
 mod labels;
 mod laws;
 mod rows;
@@ -11,6 +12,7 @@ mod session;
 mod stepping;
 mod telling;
 
+pub use forms::BUILT_FORMS;
 pub use labels::Labels;
 pub use laws::none_is_shrinking;
 pub use session::{Session, Turn};

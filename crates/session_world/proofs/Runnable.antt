@@ -6,7 +6,7 @@ use Rattle.seg_words.specs.Types.{MOST_SESSIONS}
 use Rattle.script_text.specs.declared.statement.Statement.{Statement}
 use Rattle.script_text.specs.declared.statement.Statement.TheVariants as asked
 use Rattle.script_text.specs.declared.form.Forms.{Forms}
-use Rattle.script_text.specs.declared.form.TheConstants.{BUILT_FORMS}
+use Rattle.session_step.specs.declared.forms.TheConstants.{BUILT_FORMS}
 use Rattle.script_text.specs.Forms.{is_open}
 use Rattle.script_text.specs.Script.{Script}
 use Rattle.script_text.specs.Spelled.{IsStatement, IsScript, form_of, most_sessions}

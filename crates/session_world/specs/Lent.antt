@@ -1,7 +1,7 @@
 -- A run with the store and the sink that it was lent.
 use Rattle.std.specs.Prelude.{◌≡◌, Option, Some, None, Result, Ok, Err}
 use Rattle.std.specs.Borrow.{GName}
-use Rattle.script_text.specs.declared.form.TheConstants.{BUILT_FORMS}
+use Rattle.session_step.specs.declared.forms.TheConstants.{BUILT_FORMS}
 use Rattle.script_text.specs.Script.{Script}
 use Rattle.script_text.specs.Spelled.{IsScript}
 use Rattle.store_core.specs.Store.{Held}

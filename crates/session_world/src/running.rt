@@ -2,7 +2,7 @@
 ghost use Rattle.std.specs.Prelude.{◌≡◌, ◌≤◌, ℕ, List, length, Option, None, IsErrOf, OnOk};
 ghost use Rattle.seg_words.specs.Types.{Rose};
 ghost use Rattle.redo_model.specs.Records.{Record};
-ghost use Rattle.script_text.specs.declared.form.TheConstants.{BUILT_FORMS};
+ghost use Rattle.session_step.specs.declared.forms.TheConstants.{BUILT_FORMS};
 ghost use Rattle.script_text.specs.declared.statement.Statement.{Statement as TheStatement};
 ghost use Rattle.script_text.specs.Spelled.{IsScript};
 ghost use Rattle.store_core.specs.Store.{Held, IsTrue};

@@ -1,7 +1,7 @@
 // A run over the store and the sink that it was lent.
 ghost use Rattle.std.specs.Prelude.{◌≡◌, ℕ, List, length, Option, None, IfOk};
 ghost use Rattle.redo_model.specs.Records.{Record};
-ghost use Rattle.script_text.specs.declared.form.TheConstants.{BUILT_FORMS};
+ghost use Rattle.session_step.specs.declared.forms.TheConstants.{BUILT_FORMS};
 ghost use Rattle.script_text.specs.Spelled.{IsScript};
 ghost use Rattle.store_core.specs.Store.{Held};
 ghost use Rattle.session_world.specs.Calling.{HasServed};

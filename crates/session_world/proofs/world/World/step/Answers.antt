@@ -3,7 +3,7 @@ use Rattle.std.specs.Prelude.{ℕ, List, Option}
 use Rattle.redo_model.specs.Records.{Record}
 use Rattle.script_text.specs.Script.{Script}
 use Rattle.script_text.specs.Spelled.{IsScript}
-use Rattle.script_text.specs.declared.form.TheConstants.{BUILT_FORMS}
+use Rattle.session_step.specs.declared.forms.TheConstants.{BUILT_FORMS}
 use Rattle.store_core.specs.Store.{Held}
 use Rattle.session_world.specs.Calling.{HasServed}
 use Rattle.session_world.specs.Between.{IsSoFar, TakesTurn}

@@ -2,7 +2,7 @@ use Rattle.std.proofs.Common.{subst, sym}
 use Rattle.script_text.specs.Script.{Script}
 use Rattle.script_text.specs.Spelled.{IsScript}
 use Rattle.script_text.proofs.ScriptFits.{read_built, read_all}
-use Rattle.script_text.proofs.parsing.parse_forms.Goals as goal
+use Rattle.script_text.proofs.parsing.parse.Goals as goal
 
 pub into_scripts-requires : goal.into_scripts-requires
 into_scripts-requires c = read_all c.args.forms.now c.args.text.now c.in_ok-draft.draft c.in_ok-draft.ensures

@@ -40,7 +40,7 @@ pub laid_out-le-used : (ended : ℕ → Bool) (b : Block) → All Roomy b.slots 
 laid_out-le-used ended b h = omega (arith, laid-le-sizes ended b.slots (recursion_from_All Roomy b.slots h))
 
 -- what a block counts with an image in slot k
-sizes_put : (f : Slot → ℕ) (ss : List Slot) (k : ℕ) (v : Slot) → k ≤ length ss → sum_by f (put new_slot ss k v) + cond (ltb k (length ss)) (f (get_or ss k new_slot)) 0 ≡ sum_by f ss + f v
+pub sizes_put : (f : Slot → ℕ) (ss : List Slot) (k : ℕ) (v : Slot) → k ≤ length ss → sum_by f (put new_slot ss k v) + cond (ltb k (length ss)) (f (get_or ss k new_slot)) 0 ≡ sum_by f ss + f v
 sizes_put f ss k v le = elim (cases_Bool (ltb k (length ss))) [
   | inl y ↦ (let lt : k < length ss = grind (arith, nat_tests) in rw (y, put_set new_slot ss k v lt) (sum_by-set f ss k v new_slot lt))
   | inr n ↦ (let last : k ≡ length ss = grind (arith, nat_tests) in rw (n, put_push new_slot ss k v last) (omega (arith, sum_by_push f ss v)))
@@ -167,7 +167,7 @@ told_bytes s None = refl
 told_bytes s (Some zero) = refl
 told_bytes s (Some (suc c)) = refl
 
-cleaned_sizes : (cs : List (ℕ × ℕ)) (ss : List Slot) → sum_by (slot_size (λ t. true)) (map (clean_slot cs) ss) ≡ sum_by (slot_size (λ t. true)) ss
+pub cleaned_sizes : (cs : List (ℕ × ℕ)) (ss : List Slot) → sum_by (slot_size (λ t. true)) (map (clean_slot cs) ss) ≡ sum_by (slot_size (λ t. true)) ss
 cleaned_sizes cs [] = refl
 cleaned_sizes cs (s ∷ ss) =
     let one : slot_size (λ t. true) (clean_slot cs s) ≡ slot_size (λ t. true) s

@@ -1,5 +1,6 @@
 pub mod Cleaned
 pub mod Held
+pub mod Laid
 pub mod Reading
 pub mod Writing
 pub mod InRange

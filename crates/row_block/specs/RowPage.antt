@@ -1,5 +1,5 @@
 -- A row block's page as contracts see it.
-use Rattle.std.specs.Prelude.{ℕ, ◌-◌, ◌<◌, ◌≤◌, Bool, true, if◌then◌else◌, nat_lt, nat_le, length, slice_index_or, All}
+use Rattle.std.specs.Prelude.{ℕ, ◌≡◌, ◌-◌, ◌<◌, ◌≤◌, Bool, true, List, sum_by, if◌then◌else◌, nat_lt, nat_le, length, slice_index_or, All}
 use Rattle.seg_words.specs.Types.{Slot, Block, new_slot, new_entry, put_slot, put_entry, slot_size, used_of, BLOCK_ROOM, MOST_SLOTS, MOST_LIST_ENTRIES}
 use Rattle.page_bytes.specs.Types.{HasSlotForm}
 
@@ -16,6 +16,10 @@ with_block p b = record { dba = p.dba; lsn = p.lsn; block = b }
 abbrev pub laid_out : Block → ℕ
 laid_out b = used_of (λ t. true) b
 
+-- of that, what the slots take
+abbrev pub laid_slots : List Slot → ℕ
+laid_slots ss = sum_by (slot_size (λ t. true)) ss
+
 -- an image whose row fits its room, and whose room fits a block
 pub record IsImage (s : Slot) : Type 0 where
   pub bytes : length s.bytes ≤ s.room
@@ -30,6 +34,11 @@ pub record IsHeld (b : Block) : Type 0 where
   pub rooms : All (λ s. length s.bytes ≤ s.room) b.slots
   pub forms : All HasSlotForm b.slots
   pub size : laid_out b ≤ BLOCK_ROOM
+
+-- a block that fits its page, of which the slots take so many bytes
+pub record IsLaid (bytes : ℕ) (b : Block) : Type 0 where
+  pub held : IsHeld b
+  pub slots : bytes ≡ laid_slots b.slots
 
 -- an image can be put into slot k, or behind the last slot: it has a spelling, and the block then fits its page
 pub record CanPut (b : Block) (k : ℕ) (image : Slot) : Type 0 where

@@ -1,7 +1,7 @@
 // A row block, and the calls that ask it and change it.
-ghost use Rattle.std.specs.Prelude.{◌≡◌, ◌≤◌, ◌<◌, ◌+◌, ◌*◌, ◌/◌, ◌↔◌, length, slice_index_or, true, if◌then◌else◌, nat_lt, Some, None, OnOk, OnErr, IfOk, IfSome, IsTrue, MatchResult, option_map};
+ghost use Rattle.std.specs.Prelude.{◌≡◌, ◌≤◌, ◌<◌, ◌+◌, ◌-◌, ◌*◌, ◌/◌, ◌↔◌, length, slice_index_or, true, if◌then◌else◌, nat_lt, Some, None, OnOk, OnErr, IfOk, IfSome, IsTrue, MatchResult, option_map};
 ghost use Rattle.seg_words.specs.Types.{new_block, put, put_slot, put_entry, new_slot, new_entry, slot_size, used_of, free_of, class_of_block, entry_for, other_entry, entry_size, entry_need, slot_need, takes, fits, row_growth, has_room, clean_block};
-ghost use Rattle.row_block.specs.RowPage.{with_block, laid_out, IsImage, IsHeld, counted, growth_of, need_of, CanPut, CanEnter, RowPage};
+ghost use Rattle.row_block.specs.RowPage.{with_block, laid_out, laid_slots, IsLaid, IsImage, IsHeld, counted, growth_of, need_of, CanPut, CanEnter, RowPage};
 ghost use Rattle.row_block.specs.Answers.{Fills, Puts, Enters, RefusesEntry, txns_of};
 ghost use Rattle.row_block.specs.Spelling.{spelling, IsRowPage, Decodes, IsReadAs};
 ghost use Rattle.page_bytes.specs.Types.{HasSlotForm};
@@ -11,7 +11,9 @@ use crate::BlockFault;
 use crate::clean::clean_slots;
 use crate::entries::Entries;
 use crate::ranges::{entries_in_range, slots_in_range};
-use crate::sizes::{AllEnded, row_size, slot_size, slot_to_use, slots_size};
+use crate::sizes::{
+    AllEnded, has_room, laid_after, row_size, size_at, slot_size, slot_to_use, slots_size,
+};
 use page_bytes::{PageForm, has_slot_form, in_range};
 use seg_base::{
     BLOCK_ROOM, BLOCK_SIZE, Class, Dba, Ended, LEAST_LIST_ENTRIES, LIST_ENTRY_SIZE, ListEntry, Lsn,
@@ -28,16 +30,18 @@ pub struct RowBlock {
     lsn: Lsn,
     slots: Vec<Slot>,
     entries: Entries,
+    /// What the slots take on the page: kept, so that a full block is known as such without a look at its slots.
+    laid: u32,
 }
 
 impl Model for RowBlock {
-    ghost use Rattle.row_block.specs.RowPage.{RowPage, IsHeld};
+    ghost use Rattle.row_block.specs.RowPage.{RowPage, IsLaid};
 
     ghost Value = { RowPage };
 
     ghost view = { λ p. record { dba = p.dba; lsn = p.lsn; block = record { slots = p.slots.items; entries = p.entries } } };
 
-    ghost invariant = { λ p. IsHeld (record { slots = p.slots.items; entries = p.entries }) };
+    ghost invariant = { λ p. IsLaid p.laid (record { slots = p.slots.items; entries = p.entries }) };
 }
 
 impl RowBlock {
@@ -50,6 +54,7 @@ impl RowBlock {
             lsn: Lsn(0),
             slots: Vec::new(alloc),
             entries: Entries::new(),
+            laid: 0,
         }
     }
 
@@ -58,11 +63,13 @@ impl RowBlock {
         requires { IsHeld (record { slots = slots.items; entries = entries }) }
         ensures { result ≡ record { dba = dba; lsn = lsn; block = record { slots = slots.items; entries = entries } } }
     {
+        let laid = slots_size(&slots, &AllEnded);
         RowBlock {
             dba,
             lsn,
             slots,
             entries,
+            laid,
         }
     }
 
@@ -91,16 +98,32 @@ impl RowBlock {
         self.lsn
     }
 
-    /// What the slots count, and 24 for each list entry past the second.
-    fn used<E: Ended>(&self, ended: &E) -> u32
-        ensures value { result ≡ used_of (E.has_ended ended.now) self.now.block }
-        ensures most { result ≤ 6557644 }
+    /// What list entries past the second take.
+    fn more_entries(&self) -> u32
+        ensures value { result ≡ LIST_ENTRY_SIZE * (length self.now.block.entries - LEAST_LIST_ENTRIES) }
+        ensures most { result ≤ 144 }
     {
         let more = self
             .entries
             .len()
             .saturating_sub(LEAST_LIST_ENTRIES as usize);
-        slots_size(&self.slots, ended) + (LIST_ENTRY_SIZE * more) as u32
+        (LIST_ENTRY_SIZE * more) as u32
+    }
+
+    /// What the block takes on its page, in no more steps for a block of many slots.
+    fn laid_out(&self) -> u32
+        ensures value { result ≡ laid_out self.now.block }
+        ensures most { result ≤ BLOCK_ROOM }
+    {
+        self.laid + self.more_entries()
+    }
+
+    /// What the slots count, and 24 for each list entry past the second.
+    fn used<E: Ended>(&self, ended: &E) -> u32
+        ensures value { result ≡ used_of (E.has_ended ended.now) self.now.block }
+        ensures most { result ≤ 6557644 }
+    {
+        slots_size(&self.slots, ended) + self.more_entries()
     }
 
     /// The bytes that are free.
@@ -214,11 +237,23 @@ impl RowBlock {
         Some(self.entry_size(entry?))
     }
 
+    /// Whether a row of this length and PCTFREE go beside what the block takes on its page. Where they don't, no transaction's row
+    /// does: active writers' room takes the more.
+    fn may_take(&self, pctfree: u8, len: u16) -> bool
+        ensures { result ≡ has_room pctfree (BLOCK_ROOM - laid_out self.now.block) len }
+    {
+        has_room(pctfree, BLOCK_ROOM - self.laid_out(), u32::from(len))
+    }
+
     /// Whether a row of this length goes into the block, into a slot that is reusable or new, and leaves PCTFREE free.
     pub fn takes<E: Ended>(&self, ended: &E, pctfree: u8, len: u16, taker: &Taker) -> bool
         requires { pctfree ≤ MOST_PCTFREE }
         ensures { result ≡ takes (E.has_ended ended.now) pctfree self.now.block len taker.now }
     {
+        let _ = &self.dba;
+        if !self.may_take(pctfree, len) {
+            return false;
+        }
         match self.entry_need(ended, taker) {
             None => false,
             Some(entry) => {
@@ -232,8 +267,7 @@ impl RowBlock {
                     SLOT_SIZE as u32
                 };
                 let need = u32::from(len) + slot + u32::from(entry);
-                let free = u32::from(self.free(ended));
-                need <= free && u32::from(pctfree) * BLOCK_ROOM <= (free - need) * 100
+                has_room(pctfree, u32::from(self.free(ended)), need)
             }
         }
     }
@@ -256,10 +290,7 @@ impl RowBlock {
     fn counted<E: Ended>(&self, ended: &E, n: u8) -> u32
         ensures { result ≡ counted (E.has_ended ended.now) self.now.block n }
     {
-        match self.slots.get(n as usize) {
-            Some(slot) => slot_size(slot, ended),
-            None => 0,
-        }
+        size_at(&self.slots, ended, n as usize)
     }
 
     /// What an image counts in slot n beyond what the slot counts now.
@@ -289,7 +320,7 @@ impl RowBlock {
             return false;
         }
         let len = image.bytes.len();
-        let others = self.used(&AllEnded) - self.counted(&AllEnded, n);
+        let others = self.laid_out() - self.counted(&AllEnded, n);
         others + SLOT_SIZE as u32 + len as u32 <= BLOCK_ROOM
     }
 
@@ -298,7 +329,9 @@ impl RowBlock {
         requires { CanPut self.old.block n image }
         ensures { Puts self.old (with_block self.old (put_slot n image self.old.block)) self.new result }
     {
+        let laid = laid_after(&self.slots, self.laid, n as usize, &image);
         put(&mut self.slots, n as usize, image)?;
+        self.laid = laid;
         Ok(())
     }
 
@@ -331,7 +364,7 @@ impl RowBlock {
         if i < count {
             return true;
         }
-        self.used(&AllEnded) + LIST_ENTRY_SIZE as u32 <= BLOCK_ROOM
+        self.laid_out() + LIST_ENTRY_SIZE as u32 <= BLOCK_ROOM
     }
 
     /// Puts a transaction into list entry i, or behind the last entry.
@@ -376,6 +409,7 @@ impl RowBlock {
     {
         self.slots.clear();
         self.entries = Entries::new();
+        self.laid = 0;
     }
 
     pub fn set_lsn(&mut self, lsn: Lsn)
@@ -420,6 +454,7 @@ impl RowBlock {
             lsn: self.lsn,
             slots,
             entries: self.entries.duplicate(),
+            laid: self.laid,
         })
     }
 }

@@ -1,8 +1,9 @@
 // What slots count, and which is used next.
-ghost use Rattle.std.specs.Prelude.{◌≡◌, ◌<◌, ◌≤◌, length, get_or, cond, ltb, Some, None, All, sum_by};
-ghost use Rattle.seg_words.specs.Types.{position_or_len, row_size, slot_size, writer_has_ended, is_reusable};
+ghost use Rattle.std.specs.Prelude.{◌≡◌, ◌<◌, ◌≤◌, length, get_or, cond, ltb, Some, None, All, sum_by, if◌then◌else◌, nat_lt, slice_index_or};
+ghost use Rattle.seg_words.specs.Types.{position_or_len, row_size, slot_size, writer_has_ended, is_reusable, new_slot, put, has_room};
+ghost use Rattle.row_block.specs.RowPage.{laid_slots};
 
-use seg_base::{Ended, Kind, MOST_SLOTS, SLOT_SIZE, Slot, TxnId, Writer};
+use seg_base::{BLOCK_ROOM, Ended, Kind, MOST_SLOTS, SLOT_SIZE, Slot, TxnId, Writer};
 
 /// Every transaction has ended: a slot counts what it takes on the page.
 pub struct AllEnded;
@@ -59,6 +60,37 @@ pub fn slots_size<E: Ended>(slots: &[Slot], ended: &E) -> u32
         size += slot_size(slot, ended);
     }
     size
+}
+
+/// What the slot in this place counts, 0 where it isn't there yet.
+pub fn size_at<E: Ended>(slots: &[Slot], ended: &E, at: usize) -> u32
+    requires { All (λ s. length s.bytes ≤ s.room) slots.now }
+    ensures { result ≡ (if nat_lt at (length slots.now) then slot_size (E.has_ended ended.now) (slice_index_or slots.now at new_slot) else 0) }
+{
+    match slots.get(at) {
+        Some(slot) => slot_size(slot, ended),
+        None => 0,
+    }
+}
+
+/// What the slots take on the page once an image is put in its place, or behind the last slot.
+pub fn laid_after(slots: &[Slot], laid: u32, at: usize, image: &Slot) -> u32
+    requires at { at ≤ length slots.now }
+    requires rooms { All (λ s. length s.bytes ≤ s.room) slots.now }
+    requires image { length image.now.bytes ≤ image.now.room }
+    requires laid { laid ≡ laid_slots slots.now }
+    requires most { laid ≤ BLOCK_ROOM }
+    ensures { result ≡ laid_slots (put new_slot slots.now at image.now) }
+{
+    laid - size_at(slots, &AllEnded, at) + slot_size(image, &AllEnded)
+}
+
+/// Whether so many bytes can be had of those that are free, with PCTFREE left free.
+pub fn has_room(pctfree: u8, free: u32, need: u32) -> bool
+    requires { free ≤ BLOCK_ROOM }
+    ensures { result ≡ has_room pctfree free need }
+{
+    need <= free && u32::from(pctfree) * BLOCK_ROOM <= (free - need) * 100
 }
 
 fn is_reusable<E: Ended>(slot: &Slot, ended: &E) -> bool

@@ -1,7 +1,7 @@
 // A row block, and the calls that ask it and change it.
 ghost use Rattle.std.specs.Prelude.{◌≡◌, ◌≤◌, ◌<◌, ◌+◌, ◌-◌, ◌*◌, ◌/◌, ◌↔◌, length, slice_index_or, true, if◌then◌else◌, nat_lt, Some, None, OnOk, OnErr, IfOk, IfSome, IsTrue, MatchResult, option_map};
 ghost use Rattle.seg_words.specs.Types.{new_block, put, put_slot, put_entry, new_slot, new_entry, slot_size, used_of, free_of, class_of_block, entry_for, other_entry, entry_size, entry_need, slot_need, takes, fits, row_growth, has_room, clean_block};
-ghost use Rattle.row_block.specs.RowPage.{with_block, laid_out, laid_slots, IsLaid, IsImage, IsHeld, counted, growth_of, need_of, CanPut, CanEnter, RowPage};
+ghost use Rattle.row_block.specs.RowPage.{with_block, laid_out, IsImage, IsHeld, counted, growth_of, need_of, CanPut, CanEnter, RowPage};
 ghost use Rattle.row_block.specs.Answers.{Fills, Puts, Enters, RefusesEntry, txns_of};
 ghost use Rattle.row_block.specs.Spelling.{spelling, IsRowPage, Decodes, IsReadAs};
 ghost use Rattle.page_bytes.specs.Types.{HasSlotForm};
@@ -110,7 +110,7 @@ impl RowBlock {
         (LIST_ENTRY_SIZE * more) as u32
     }
 
-    /// What the block takes on its page, in no more steps for a block of many slots.
+    /// What the block takes on its page.
     fn laid_out(&self) -> u32
         ensures value { result ≡ laid_out self.now.block }
         ensures most { result ≤ BLOCK_ROOM }
@@ -237,8 +237,8 @@ impl RowBlock {
         Some(self.entry_size(entry?))
     }
 
-    /// Whether a row of this length and PCTFREE go beside what the block takes on its page. Where they don't, no transaction's row
-    /// does: active writers' room takes the more.
+    /// Whether a row of this length and PCTFREE go beside what the block takes on its page. Where they don't, the block takes the
+    /// row from nobody: the room that it keeps for active writers, a slot and a list entry only need more.
     fn may_take(&self, pctfree: u8, len: u16) -> bool
         ensures { result ≡ has_room pctfree (BLOCK_ROOM - laid_out self.now.block) len }
     {

@@ -10,6 +10,11 @@ abbrev pub data_count : Shape → ℕ → ℕ
 data_count sh zero = 0
 data_count sh (suc n) = data_count sh n + (sh.extent - head_blocks n)
 
+-- how many of their blocks are bitmaps and the header
+abbrev pub head_count : ℕ → ℕ
+head_count zero = 0
+head_count (suc n) = head_count n + head_blocks n
+
 abbrev pub block_or_none : Shape → ℕ → ℕ → Option ℕ
 block_or_none sh x n = cond (ltb (first_block sh x + n) sh.blocks) (Some (first_block sh x + n)) None
 

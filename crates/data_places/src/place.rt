@@ -1,7 +1,7 @@
 // Positions of data blocks, and where they stand.
 ghost use Rattle.std.specs.Prelude.{ℕ, ◌≡◌, ◌≤◌, ◌+◌, ◌*◌, true, MatchOption};
 ghost use Rattle.seg_words.specs.Types.{head_blocks as heads_of, is_shape, MOST_EXTENT_BLOCKS};
-ghost use Rattle.data_places.specs.Places.{IsPlace, block_or_none, data_count as count_of};
+ghost use Rattle.data_places.specs.Places.{IsPlace, block_or_none, data_count as count_of, head_count};
 
 use seg_base::{Dba, EXTENTS_OF_L2, MOST_EXTENTS, OWN_BLOCKS, Shape};
 
@@ -44,6 +44,23 @@ pub fn block_in(shape: &Shape, extent: u32, nth: u16) -> Option<Dba>
     Some(Dba(block as u32))
 }
 
+/// How many blocks of the first extents of a table are bitmaps and the header: one of each, and five more in three of them.
+fn head_count(extents: u16) -> u32
+    ensures { result ≡ head_count extents }
+{
+    if extents == 0 {
+        return 0;
+    }
+    let count = u32::from(extents) + 3;
+    if usize::from(extents) <= EXTENTS_OF_L2 {
+        return count;
+    }
+    if usize::from(extents) <= 2 * EXTENTS_OF_L2 {
+        return count + 1;
+    }
+    count + 2
+}
+
 /// How many data blocks the first extents of a table have.
 pub fn data_count(shape: &Shape, extents: u16) -> u32
     requires shape { is_shape shape.now ≡ true }
@@ -51,11 +68,7 @@ pub fn data_count(shape: &Shape, extents: u16) -> u32
     ensures value { result ≡ count_of shape.now extents }
     ensures most { result ≤ MOST_EXTENTS * MOST_EXTENT_BLOCKS }
 {
-    let mut count = 0;
-    for index in 0..extents {
-        count += shape.extent - u32::from(head_blocks(index));
-    }
-    count
+    u32::from(extents) * shape.extent - head_count(extents)
 }
 
 /// Where the data block at this position stands, in a table with so many extents. None exactly where it has no more data

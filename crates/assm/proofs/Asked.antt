@@ -51,7 +51,7 @@ repair_is_short text t e h = let l = name_is_short t h in let k = tail_length t 
 pub usage_says : (t : List ℕ) → is_name t ≡ true → scripts_of BUILT_FORMS (printed (script_with (asks.Usage t))) ≡ Ok (script_with (asks.Usage t))
 usage_says t h = printed_says BUILT_FORMS (script_with (asks.Usage t)) (record {
   few = omega arith;
-  statements = ((record { built = refl; spelled = h }, tt), tt);
+  statements = ((record { built = refl; ready = refl; spelled = h }, tt), tt);
   labels = tt;
   turns = tt;
   placed = λ e. refl;
@@ -60,7 +60,7 @@ usage_says t h = printed_says BUILT_FORMS (script_with (asks.Usage t)) (record {
 pub repair_says : (t : List ℕ) → is_name t ≡ true → scripts_of BUILT_FORMS (printed (script_with (asks.Repair t))) ≡ Ok (script_with (asks.Repair t))
 repair_says t h = printed_says BUILT_FORMS (script_with (asks.Repair t)) (record {
   few = omega arith;
-  statements = ((record { built = refl; spelled = h }, tt), tt);
+  statements = ((record { built = refl; ready = refl; spelled = h }, tt), tt);
   labels = tt;
   turns = tt;
   placed = λ e. refl;

@@ -4,12 +4,12 @@ use Rattle.seg_words.specs.Types.{list_all, list_any, AllByRecursion}
 use Rattle.std.specs.Str.Lines.{lines}
 use Rattle.script_text.specs.OwnTypes.{Statement, Turns, Draft, Form, Session, Table, Movement, Insert, Update, Delete, Commit, Rollback, Scan, Shrink, Usage, Fix, Repair, Checkpoint, Schedule, Forms, ALL_FORMS, Why, BadByte, SessionOrder, NotAStatement, DuplicateLabel, ScriptFault}
 use Rattle.script_text.specs.Pieces.{cut, words, number_of, is_text_byte}
-use Rattle.script_text.specs.Forms.{is_open, form_of as form_named}
+use Rattle.script_text.specs.Forms.{is_open, is_ready, form_of as form_named}
 use Rattle.script_text.specs.Rows.{row, ◌>>=◌}
 use Rattle.script_text.specs.Schedule.{items_of}
 use Rattle.script_text.specs.Script.{Script}
-use Rattle.script_text.specs.Grammar.{nothing_read, closed_of, script_of, is_passed_over, is_empty, is_out_of_order, is_just, next_session, session_of, schedule_of, bound, added, rowed, formed, worded, line_of, at_line, goes_on, read_lines, scripts_of}
-use Rattle.script_text.specs.Spelled.{IsStatement, IsTurns, IsScript, AreNew, labels_of, labels_in, most_sessions, form_of}
+use Rattle.script_text.specs.Grammar.{nothing_read, closed_of, script_of, is_passed_over, is_empty, is_out_of_order, is_just, next_session, session_of, schedule_of, bound, added, joined, rowed, formed, worded, line_of, at_line, goes_on, read_lines, scripts_of}
+use Rattle.script_text.specs.Spelled.{IsStatement, IsSpelled, IsTurns, IsScript, AreNew, labels_of, labels_in, most_sessions, form_of}
 use Rattle.script_text.proofs.RowsFit.{IfRead, step, done, chosen, refused, row_fits, AreTextBytes, bytes_behind, number_within}
 use Rattle.script_text.proofs.ScheduleSaid.{items_fit}
 use Rattle.script_text.specs.declared.statement.Statement.TheVariants as asks
@@ -126,9 +126,16 @@ added_fits : (forms : Forms) (draft : Draft) (s : Statement) → IsDraft forms d
 added_fits forms draft s h is some =
     step (bound_fits draft.labels s h.labels) (λ now b. done (IsDraft forms) (record draft { current = draft.current ++ s ∷ []; labels = now }) (statement_more forms draft s now h is some b))
 
-rowed_test : (forms : Forms) (draft : Draft) (form : Form) (rest : Option (List ℕ)) (b : Bool) → is_open forms form ≡ b → IsDraft forms draft → eqb draft.count 0 ≡ false → AreTextBytes rest → IfRead (cond b (row form rest >>= added draft) (Err NotAStatement)) (IsDraft forms)
+joined_test : (forms : Forms) (draft : Draft) (s : Statement) (b : Bool) → is_ready forms s ≡ b → IsDraft forms draft → is_open forms (form_of s) ≡ true → IsSpelled s → eqb draft.count 0 ≡ false → IfRead (cond b (added draft s) (Err NotAStatement)) (IsDraft forms)
+joined_test forms draft s true e h built spelled some = added_fits forms draft s h (record { built = built; ready = e; spelled = spelled }) some
+joined_test forms draft s false e h built spelled some = refused _ NotAStatement
+
+joined_fits : (forms : Forms) (draft : Draft) (s : Statement) → IsDraft forms draft → is_open forms (form_of s) ≡ true → IsSpelled s → eqb draft.count 0 ≡ false → IfRead (joined forms draft s) (IsDraft forms)
+joined_fits forms draft s h built spelled some = joined_test forms draft s (is_ready forms s) refl h built spelled some
+
+rowed_test : (forms : Forms) (draft : Draft) (form : Form) (rest : Option (List ℕ)) (b : Bool) → is_open forms form ≡ b → IsDraft forms draft → eqb draft.count 0 ≡ false → AreTextBytes rest → IfRead (cond b (row form rest >>= joined forms draft) (Err NotAStatement)) (IsDraft forms)
 rowed_test forms draft form rest true e h some all =
-    step (row_fits form rest all) (λ s fits. added_fits forms draft s h (record { built = ap (is_open forms) fits.1 ∙ e; spelled = fits.0 }) some)
+    step (row_fits form rest all) (λ s fits. joined_fits forms draft s h (ap (is_open forms) fits.1 ∙ e) fits.0 some)
 rowed_test forms draft form rest false e h some all = refused _ NotAStatement
 
 rowed_fits : (forms : Forms) (draft : Draft) (form : Form) (rest : Option (List ℕ)) → IsDraft forms draft → eqb draft.count 0 ≡ false → AreTextBytes rest → IfRead (rowed forms draft form rest) (IsDraft forms)
@@ -308,9 +315,25 @@ open_all Repair = refl
 open_all Checkpoint = refl
 open_all Schedule = refl
 
+ready_all : (s : Statement) → is_ready ALL_FORMS s ≡ true
+ready_all (asks.Table name pctfree) = refl
+ready_all (asks.Movement table on) = refl
+ready_all (asks.Insert table label text) = refl
+ready_all (asks.Update table target text) = refl
+ready_all (asks.Delete table target) = refl
+ready_all asks.Commit = refl
+ready_all asks.Rollback = refl
+ready_all (asks.Scan table) = refl
+ready_all (asks.Shrink table true) = refl
+ready_all (asks.Shrink table false) = refl
+ready_all (asks.Usage table) = refl
+ready_all (asks.Fix table block value) = refl
+ready_all (asks.Repair table) = refl
+ready_all asks.Checkpoint = refl
+
 session_all : (forms : Forms) (session : List Statement) → AllSpelled forms session → AllSpelled ALL_FORMS session
 session_all forms [] h = tt
-session_all forms (s ∷ rest) h = (record { built = open_all (form_of s); spelled = h.0.spelled }, session_all forms rest h.1)
+session_all forms (s ∷ rest) h = (record { built = open_all (form_of s); ready = ready_all s; spelled = h.0.spelled }, session_all forms rest h.1)
 
 sessions_all : (forms : Forms) (sessions : List (List Statement)) → AllByRecursion (AllSpelled forms) sessions → AllByRecursion (AllSpelled ALL_FORMS) sessions
 sessions_all forms [] h = tt

@@ -9,7 +9,7 @@ use Rattle.script_text.specs.Forms.{word_of}
 use Rattle.script_text.specs.Rows.{row, ◌>>=◌}
 use Rattle.script_text.specs.Schedule.{items_of}
 use Rattle.script_text.specs.Script.{Script}
-use Rattle.script_text.specs.Grammar.{nothing_read, closed_of, script_of, is_empty, is_just, next_session, session_of, schedule_of, bound, added, rowed, worded, line_of, at_line, goes_on, read_lines, scripts_of}
+use Rattle.script_text.specs.Grammar.{nothing_read, closed_of, script_of, is_empty, is_just, next_session, session_of, schedule_of, bound, added, joined, rowed, worded, line_of, at_line, goes_on, read_lines, scripts_of}
 use Rattle.script_text.specs.Spelled.{IsStatement, IsTurns, IsScript, AreNew, labels_of, labels_in, most_sessions, form_of, behind, with_rest, statement_line, statement_lines, session_line, session_lines, item_text, items_text, schedule_line, printed}
 use Rattle.script_text.proofs.Spellings.{number_says}
 use Rattle.script_text.proofs.RowsSaid.{row_says}
@@ -95,8 +95,9 @@ statement_says : (forms : Forms) (count : ℕ) (closed : List (List Statement)) 
 statement_says forms count closed current labels rest s some is new =
     line_is forms (state count closed current labels) (form_of s) (behind s) (statement_is_text s is.spelled)
     ∙ worded_says forms (state count closed current labels) s some refl
-    ∙ ap (λ b. cond {A = Result Draft Why} b (row (form_of s) (behind s) >>= added (state count closed current labels)) (Err NotAStatement)) is.built
-    ∙ ap (λ (r : Result Statement Why). r >>= added (state count closed current labels)) (row_says s is.spelled)
+    ∙ ap (λ b. cond {A = Result Draft Why} b (row (form_of s) (behind s) >>= joined forms (state count closed current labels)) (Err NotAStatement)) is.built
+    ∙ ap (λ (r : Result Statement Why). r >>= joined forms (state count closed current labels)) (row_says s is.spelled)
+    ∙ ap (λ b. cond {A = Result Draft Why} b (added (state count closed current labels) s) (Err NotAStatement)) is.ready
     ∙ ap (λ (r : Result (List (List ℕ)) Why). r >>= λ now. Ok (state count closed (current ++ s ∷ []) now)) (bound_says labels s rest new)
 
 spelled_line : (t : Statement) (ts : List Statement) (tail : List ℕ) → with_rest (word_of (form_of t)) (behind t) ++ 10 ∷ (statement_lines ts ++ tail) ≡ statement_lines (t ∷ ts) ++ tail

@@ -1,6 +1,7 @@
 -- The forms of lines.
-use Rattle.std.specs.Prelude.{ℕ, Bool, true, if◌then◌else◌, List, [], ◌∷◌, Option, Some, None, codes, bytes_eq}
-use Rattle.script_text.specs.OwnTypes.{Form, Session, Table, Movement, Insert, Update, Delete, Commit, Rollback, Scan, Shrink, Usage, Fix, Repair, Checkpoint, Schedule, Forms}
+use Rattle.std.specs.Prelude.{ℕ, Bool, true, ◌||◌, if◌then◌else◌, List, [], ◌∷◌, Option, Some, None, codes, bytes_eq}
+use Rattle.script_text.specs.OwnTypes.{Form, Session, Table, Movement, Insert, Update, Delete, Commit, Rollback, Scan, Shrink, Usage, Fix, Repair, Checkpoint, Schedule, Forms, Statement}
+use Rattle.script_text.specs.declared.statement.Statement.TheVariants as asks
 
 -- the first word of a form's lines
 abbrev pub word_of : Form → List ℕ
@@ -33,9 +34,14 @@ form_of word = named_in (Session ∷ Table ∷ Movement ∷ Insert ∷ Update �
 
 -- whether the form's lines are statements: some forms come later
 abbrev pub is_open : Forms → Form → Bool
-is_open forms Shrink = forms.shrink
+is_open forms Shrink = forms.compact
 is_open forms Usage = forms.usage
 is_open forms Fix = forms.fix
 is_open forms Repair = forms.repair
 is_open forms Checkpoint = forms.checkpoint
 is_open forms form = true
+
+-- whether the statement is one yet: shrinks that don't only compact come later than those that do
+abbrev pub is_ready : Forms → Statement → Bool
+is_ready forms (asks.Shrink table compact) = compact || forms.shrink
+is_ready forms statement = true

@@ -5,7 +5,7 @@ use Rattle.seg_words.specs.Types.{list_all, list_any, MOST_SESSIONS}
 use Rattle.script_text.specs.OwnTypes.{Statement, Form, Session, Schedule, Forms, Draft, Why, BadByte, SessionOrder, NotAStatement, DuplicateLabel, ScriptFault}
 use Rattle.script_text.specs.declared.why.ScriptFault.TheVariants.{BadLine}
 use Rattle.script_text.specs.Pieces.{cut, words, number_of, is_text_byte}
-use Rattle.script_text.specs.Forms.{form_of, is_open}
+use Rattle.script_text.specs.Forms.{form_of, is_open, is_ready}
 use Rattle.script_text.specs.Rows.{row, ◌>>=◌}
 use Rattle.script_text.specs.Schedule.{items_of}
 use Rattle.script_text.specs.Script.{Script}
@@ -77,9 +77,13 @@ bound labels statement = Ok labels
 abbrev pub added : Draft → Statement → Result Draft Why
 added draft statement = bound draft.labels statement >>= λ labels. Ok (record draft { current = draft.current ++ statement ∷ []; labels = labels })
 
+-- where it is one yet
+abbrev pub joined : Forms → Draft → Statement → Result Draft Why
+joined forms draft statement = if is_ready forms statement then added draft statement else Err NotAStatement
+
 -- a line of another form
 abbrev pub rowed : Forms → Draft → Form → Option (List ℕ) → Result Draft Why
-rowed forms draft form rest = if is_open forms form then (row form rest >>= added draft) else Err NotAStatement
+rowed forms draft form rest = if is_open forms form then (row form rest >>= joined forms draft) else Err NotAStatement
 
 abbrev pub formed : Forms → Draft → Option Form → Option (List ℕ) → Result Draft Why
 formed forms draft None rest = Err NotAStatement

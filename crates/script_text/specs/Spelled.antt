@@ -2,7 +2,7 @@
 use Rattle.std.specs.Prelude.{◌≡◌, ℕ, ◌+◌, ◌<◌, ◌≤◌, Bool, true, false, ◌==◌, if◌then◌else◌, List, [], ◌∷◌, ◌++◌, length, Option, Some, None, codes, decimal, bytes_eq}
 use Rattle.seg_words.specs.Types.{list_all, list_any, AllByRecursion, is_name, LONGEST_ROW, MOST_PCTFREE, MOST_SESSIONS}
 use Rattle.script_text.specs.OwnTypes.{MOST_ROW_NUMBER, MOST_NUMBER, MOST_TURNS, Statement, Target, Label, Number, Turns, Form, Table, Movement, Insert, Update, Delete, Commit, Rollback, Scan, Shrink, Usage, Fix, Repair, Checkpoint, Forms}
-use Rattle.script_text.specs.Forms.{word_of, is_open}
+use Rattle.script_text.specs.Forms.{word_of, is_open, is_ready}
 use Rattle.script_text.specs.Pieces.{is_text_byte}
 use Rattle.script_text.specs.Script.{Script}
 use Rattle.script_text.specs.declared.statement.Statement.TheVariants as asks
@@ -54,6 +54,7 @@ IsSpelled asks.Checkpoint = Unit {0}
 -- a statement of a form that is built
 pub record IsStatement (forms : Forms) (statement : Statement) : Type 0 where
   pub built : is_open forms (form_of statement) ≡ true
+  pub ready : is_ready forms statement ≡ true
   pub spelled : IsSpelled statement
 
 -- turns of a session or, where that is built, of 0

@@ -1,9 +1,9 @@
 // What was read of a script so far.
 ghost use Rattle.std.specs.Prelude.{◌≡◌, ◌≤◌, option_copied, IfOk, [], Some};
 ghost use Rattle.script_text.specs.Parsed.{Gives, Becomes};
-ghost use Rattle.script_text.specs.Grammar.{nothing_read, closed_of, is_passed_over, is_session, is_schedule, is_out_of_order, is_just, next_session, session_of, schedule_of, bound, added, rowed, formed, worded, line_of};
+ghost use Rattle.script_text.specs.Grammar.{nothing_read, closed_of, is_passed_over, is_session, is_schedule, is_out_of_order, is_just, next_session, session_of, schedule_of, bound, added, joined, rowed, formed, worded, line_of};
 
-use crate::form::{Form, Forms, form_of, is_open};
+use crate::form::{Form, Forms, form_of, is_open, is_ready};
 use crate::labels::Labels;
 use crate::pieces::{are_text_bytes, cut, number};
 use crate::row::row;
@@ -147,6 +147,21 @@ fn add(alloc: Global, draft: &mut Draft, statement: Statement) -> Result<(), Lin
     Ok(draft.current.push(statement)?)
 }
 
+/// The same, where it is a statement yet.
+fn join(
+    alloc: Global,
+    forms: &Forms,
+    draft: &mut Draft,
+    statement: Statement,
+) -> Result<(), LineFault>
+    ensures { Becomes result draft.new (joined forms.now draft.old statement) }
+{
+    if !is_ready(forms, &statement) {
+        return Err(LineFault::Bad(Why::NotAStatement));
+    }
+    add(alloc, draft, statement)
+}
+
 /// Adds the statement of a line of this form.
 fn add_row(
     alloc: Global,
@@ -161,7 +176,7 @@ fn add_row(
         return Err(LineFault::Bad(Why::NotAStatement));
     }
     let statement = row(alloc, form, rest)?;
-    add(alloc, draft, statement)
+    join(alloc, forms, draft, statement)
 }
 
 fn add_formed(

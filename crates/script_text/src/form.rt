@@ -1,6 +1,8 @@
 // The forms of lines.
 ghost use Rattle.std.specs.Prelude.{◌≡◌};
-ghost use Rattle.script_text.specs.Forms.{word_of, form_of, later_form_of, is_open};
+ghost use Rattle.script_text.specs.Forms.{word_of, form_of, later_form_of, is_open, is_ready};
+
+use crate::statement::Statement;
 
 /// The form of a line, told by its first word.
 #[derive(Clone, Copy, Debug, PartialEq, Eq, Drop)]
@@ -30,6 +32,9 @@ pub struct Forms {
     pub schedule: bool,
     /// Items of the schedule for 0.
     pub flushes: bool,
+    /// Shrinks that only compact.
+    pub compact: bool,
+    /// The other shrinks, which also lower their table's marks.
     pub shrink: bool,
     pub usage: bool,
     pub fix: bool,
@@ -42,6 +47,7 @@ pub const ALL_FORMS: Forms = Forms {
     sessions: true,
     schedule: true,
     flushes: true,
+    compact: true,
     shrink: true,
     usage: true,
     fix: true,
@@ -136,11 +142,21 @@ pub fn is_open(forms: &Forms, form: Form) -> bool
     ensures { result ≡ is_open forms.now form }
 {
     match form {
-        Form::Shrink => forms.shrink,
+        Form::Shrink => forms.compact,
         Form::Usage => forms.usage,
         Form::Fix => forms.fix,
         Form::Repair => forms.repair,
         Form::Checkpoint => forms.checkpoint,
+        _ => true,
+    }
+}
+
+/// Whether the statement, of a form that is open, is one yet.
+pub fn is_ready(forms: &Forms, statement: &Statement) -> bool
+    ensures { result ≡ is_ready forms.now statement.now }
+{
+    match statement {
+        Statement::Shrink { compact, .. } => *compact || forms.shrink,
         _ => true,
     }
 }

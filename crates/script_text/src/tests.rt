@@ -7,7 +7,7 @@ use std::alloc::Global;
 use std::process::Abort;
 use std::test::Fail;
 
-/// Without shrinks, flushes and checkpoints.
+/// Without flushes, shrinks that lower marks, and checkpoints.
 const SOME_FORMS: Forms = Forms {
     flushes: false,
     shrink: false,

@@ -6,6 +6,7 @@ pub const BUILT_FORMS: Forms = Forms {
     sessions: true,
     schedule: true,
     flushes: false,
+    compact: false,
     shrink: false,
     usage: true,
     fix: true,

@@ -52,7 +52,7 @@ use Rattle.session_core.proofs.NewRows.{own_acts}
 use Rattle.session_core.proofs.Noting.{stayed_noted}
 use Rattle.session_core.proofs.Updates.{located_at}
 
-or_false : (p : Bool) → p || false ≡ p
+pub or_false : (p : Bool) → p || false ≡ p
 or_false true = refl
 or_false false = refl
 
@@ -82,7 +82,7 @@ noted_same meaning R s t = noted_none meaning R R s t (adds_none R)
 pub noted_looked : {D A : Type 0} (meaning : Meaning D) (R : List Record) (a b : Held D) (r : Result A StoreFault) → IsTrue meaning R a → HasLooked {T = A} meaning a b r → HasNoted meaning R b no_blocks
 noted_looked meaning R a b r t h = noted_same meaning R b (h.stays_true R t)
 
-noted_blocks : {D : Type 0} (meaning : Meaning D) (R next : List Record) (fs : List Fill) (s : Held D) (c : Changed) → IsTrue meaning next s → AddsBlocks R next fs → ((b : ℕ) → is_noted c b ≡ is_filled fs b) → HasNoted meaning R s c
+pub noted_blocks : {D : Type 0} (meaning : Meaning D) (R next : List Record) (fs : List Fill) (s : Held D) (c : Changed) → IsTrue meaning next s → AddsBlocks R next fs → ((b : ℕ) → is_noted c b ≡ is_filled fs b) → HasNoted meaning R s c
 noted_blocks meaning R next fs s c t a e = record { records = next; stands = t; changes = record { newer = a.newer; is = a.is; just = λ b. e b ∙ sym (a.just b) } }
 
 -- what is noted is none
@@ -201,7 +201,7 @@ unadded_notes meaning R next a b f h = noted_same meaning R b h.refused
 
 -- ---- a record that is taken back
 
-listed_noted : (bs : List ℕ) (d : ℕ) → length bs ≤ 3 → is_noted (of_blocks bs) d ≡ is_among bs d
+pub listed_noted : (bs : List ℕ) (d : ℕ) → length bs ≤ 3 → is_noted (of_blocks bs) d ≡ is_among bs d
 listed_noted [] d l = refl
 listed_noted (x ∷ []) d l = refl
 listed_noted (x ∷ y ∷ []) d l = refl

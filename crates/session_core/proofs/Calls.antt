@@ -134,10 +134,10 @@ added_stays meaning x own a b y at loan n h = record {
 pub stayed_at : {D : Type 0} (meaning : Meaning D) (x : Span) (own : Option ℕ) (a b : Held D) → IsAt meaning x own a → HasStayed meaning x a b → IsAt meaning x own b
 stayed_at meaning x own a b at h = record { stands = h.stands; unspent = h.unspent; own_is = at.own_is }
 
-turns_as : (sh sh' : Shape) (x : Span) (st : Option Statement) (R : List Record) (r : Result Acted StoreFault) → sh' ≡ sh → IfOk r (Turns sh' x st R) → IfOk r (Turns sh x st R)
+pub turns_as : (sh sh' : Shape) (x : Span) (st : Option Statement) (R : List Record) (r : Result Acted StoreFault) → sh' ≡ sh → IfOk r (Turns sh' x st R) → IfOk r (Turns sh x st R)
 turns_as sh sh' x st R r e h = subst (λ (z : Shape). IfOk r (Turns z x st R)) e h
 
-pub acted_after : {D : Type 0} (meaning : Meaning D) (x : Span) (st : Option Statement) (a b c : Held D) (r : Result Acted StoreFault) → HasStayed meaning x a b → HasActed meaning x st b c r → HasActed meaning x st a c r
+abbrev pub acted_after : {D : Type 0} (meaning : Meaning D) (x : Span) (st : Option Statement) (a b c : Held D) (r : Result Acted StoreFault) → HasStayed meaning x a b → HasActed meaning x st b c r → HasActed meaning x st a c r
 acted_after meaning x st a b c r p q = record {
   records = q.records;
   stands = q.stands;
@@ -150,7 +150,7 @@ acted_after meaning x st a b c r p q = record {
 }
 
 -- a look that fails
-pub acted_looked : {D A : Type 0} (meaning : Meaning D) (x : Span) (st : Option Statement) (own : Option ℕ) (a b : Held D) (f : StoreFault) → IsAt meaning x own a → HasLooked {T = A} meaning a b (Err f) → IsSoundFault f → HasActed meaning x st a b (Err f)
+abbrev pub acted_looked : {D A : Type 0} (meaning : Meaning D) (x : Span) (st : Option Statement) (own : Option ℕ) (a b : Held D) (f : StoreFault) → IsAt meaning x own a → HasLooked {T = A} meaning a b (Err f) → IsSoundFault f → HasActed meaning x st a b (Err f)
 acted_looked meaning x st own a b f at h sound = record {
   records = x.ended;
   stands = h.stays_true x.ended at.stands;
@@ -163,7 +163,7 @@ acted_looked meaning x st own a b f at h sound = record {
 }
 
 -- a look, and the statement is over or goes on with nothing added
-pub acted_told : {D A : Type 0} (meaning : Meaning D) (x : Span) (st : Option Statement) (own : Option ℕ) (a b : Held D) (y : A) (z : Acted) → IsAt meaning x own a → HasLooked {T = A} meaning a b (Ok y) → Turns a.shape x st x.ended z → HasActed meaning x st a b (Ok z)
+abbrev pub acted_told : {D A : Type 0} (meaning : Meaning D) (x : Span) (st : Option Statement) (own : Option ℕ) (a b : Held D) (y : A) (z : Acted) → IsAt meaning x own a → HasLooked {T = A} meaning a b (Ok y) → Turns a.shape x st x.ended z → HasActed meaning x st a b (Ok z)
 acted_told meaning x st own a b y z at h t = record {
   records = x.ended;
   stands = h.stays_true x.ended at.stands;
@@ -184,7 +184,7 @@ pub at_own : {D : Type 0} (meaning : Meaning D) (x : Span) (own found : Option �
 at_own meaning x own found s e h = subst (λ (o : Option ℕ). IsAt meaning x o s) e h
 
 -- memory is wanting before a call
-pub acted_memory : {D : Type 0} (meaning : Meaning D) (x : Span) (st : Option Statement) (own : Option ℕ) (s : Held D) → IsAt meaning x own s → HasActed meaning x st s s (Err NoMemory)
+abbrev pub acted_memory : {D : Type 0} (meaning : Meaning D) (x : Span) (st : Option Statement) (own : Option ℕ) (s : Held D) → IsAt meaning x own s → HasActed meaning x st s s (Err NoMemory)
 acted_memory meaning x st own s at = record {
   records = x.ended;
   stands = at.stands;

@@ -21,3 +21,12 @@ pub mod Usages
 pub mod Repairings
 pub mod Incarnations
 pub mod RepairEvents
+pub mod BareHeads
+pub mod ShrinkTests
+pub mod ShrinkSteps
+pub mod ShrinkRefusals
+pub mod ShrinkNotes
+pub mod Marking
+pub mod Sparing
+pub mod Lowerings
+pub mod ShrinkBegins

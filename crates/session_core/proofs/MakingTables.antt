@@ -69,7 +69,7 @@ refused_means sh x asked.Checkpoint y k h = h
 pub refusal_over : (sh : Shape) (x : Span) (st : Statement) (y : Refusal) → IsRefusedSo sh x st y → own_backed x.ended x.session ≡ false → IsOverWith sh (later x x.ended) (Some st) (outcome.Refused y) kept.Nothing
 refusal_over sh x st y r b = record { means = refused_means sh (later x x.ended) st y kept.Nothing r.means; passes = r.passes; whole = b; closed = λ z. none_some _ _ (sym z) }
 
-refusal_turns : (sh : Shape) (x : Span) (st : Statement) (y : Refusal) (own : Option ℕ) → IsRefusedSo sh x st y → own_backed x.ended x.session ≡ false → own_of x.ended x.session ≡ own → Turns sh x (Some st) x.ended (record { turned = turned.Over (outcome.Refused y) kept.Nothing; own = own })
+pub refusal_turns : (sh : Shape) (x : Span) (st : Statement) (y : Refusal) (own : Option ℕ) → IsRefusedSo sh x st y → own_backed x.ended x.session ≡ false → own_of x.ended x.session ≡ own → Turns sh x (Some st) x.ended (record { turned = turned.Over (outcome.Refused y) kept.Nothing; own = own })
 refusal_turns sh x st y own r b o = record { turns = refusal_over sh x st y r b; own = o; kept = tt }
 
 pub first_turns : (sh : Shape) (x : Span) (st : Statement) (y : Refusal) (own : Option ℕ) → IsStarting x → IsRefusedFirst sh x st y → own_of x.ended x.session ≡ own → Turns sh x (Some st) x.ended (record { turned = turned.Over (outcome.Refused y) kept.Nothing; own = own })

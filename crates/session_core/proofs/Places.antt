@@ -45,11 +45,11 @@ turns_at p sh x st (turned.Over outcome k) h = h
 turns_at p sh x st (turned.On told.Scanning) h = absurd (never_scans sh x st h.fits)
 turns_at p sh x st (turned.On d) h = h
 
-turns_with : (p : Option OpenScan) (sh : Shape) (x : Span) (st : Option Statement) (R : List Record) (r : Result Acted StoreFault) → IfOk r (Turns sh x st R) → IfOk r (TurnsWith p sh x st R)
+pub turns_with : (p : Option OpenScan) (sh : Shape) (x : Span) (st : Option Statement) (R : List Record) (r : Result Acted StoreFault) → IfOk r (Turns sh x st R) → IfOk r (TurnsWith p sh x st R)
 turns_with p sh x st R (Ok a) h = record { turns = turns_at p sh (later x R) st a.turned h.turns; own = h.own; kept = h.kept }
 turns_with p sh x st R (Err f) h = tt
 
-pub acted_at : {D : Type 0} (meaning : Meaning D) (x : Span) (st : Option Statement) (p : Option OpenScan) (a b : Held D) (r : Result Acted StoreFault) → IsShaped a.shape p → HasActed meaning x st a b r → HasActedAt meaning x st p a b r
+abbrev pub acted_at : {D : Type 0} (meaning : Meaning D) (x : Span) (st : Option Statement) (p : Option OpenScan) (a b : Held D) (r : Result Acted StoreFault) → IsShaped a.shape p → HasActed meaning x st a b r → HasActedAt meaning x st p a b r
 acted_at meaning x st p a b r shaped h = record {
   records = h.records;
   stands = h.stands;

@@ -1,5 +1,6 @@
 pub mod RowWorks
 pub mod RepairWorks
+pub mod ShrinkWorks
 pub mod Doings
 pub mod Acting
 pub mod Starting
@@ -15,6 +16,9 @@ pub mod Scanned
 pub mod Counted
 pub mod Repairing
 pub mod RepairEvents
+pub mod Shrinkers
+pub mod ShrinkEvents
+pub mod Marks
 pub mod Located
 pub mod Leaving
 pub mod Updates

@@ -1,10 +1,13 @@
 // What a session is at between its events.
 use history_model::{MOST_STARTS, Settled};
+use history_text::Stop;
 use row_change::Place;
-use seg_base::{Dba, Obj, RowNo, Scn, Sequence, TxnId};
+use seg_base::{Dba, Lsn, Newest, Obj, RowNo, Scn, Sequence, TxnId};
+use shrink_laws::Skip;
+use shrink_move::Shrink;
 
 /// What a session is at: it waits with its next statement, or with what is under way.
-#[derive(Debug, Drop)]
+#[derive(Drop)]
 pub enum Doing {
     Waiting,
     /// An insert moves the marks of its table.
@@ -17,6 +20,10 @@ pub enum Doing {
     Scanning,
     /// A repair goes through the blocks of its list, one an event.
     Repairing(RepairWork),
+    /// A shrink goes down its table, one step an event.
+    Shrinking(ShrinkWork),
+    /// A shrink has stopped, and has yet to lower its table's marks.
+    Lowering(LowerWork),
 }
 
 /// The numbers of commits that ended the starts of an update or a delete so far: the first `count` of them, in order.
@@ -44,4 +51,29 @@ pub struct RepairWork {
     pub done: usize,
     pub settled: Sequence<Settled>,
     pub changed: u32,
+}
+
+/// A shrink at work: its table, its cursor and the slots that it skipped, and how many rows it moved.
+#[derive(Drop)]
+pub struct ShrinkWork {
+    pub shrink: Shrink,
+    pub moved: u64,
+}
+
+/// A shrink that has stopped: its table, the slots that it skipped, how many rows it moved, with how many records and where it
+/// stopped.
+#[derive(Drop)]
+pub struct LowerWork {
+    pub obj: Obj,
+    pub skips: Newest<Skip>,
+    pub moved: u64,
+    pub stopped: Lsn,
+    pub stop: Stop,
+}
+
+/// A shrink of a table by another session, under way.
+#[derive(Clone, Copy, Debug, PartialEq, Eq, Drop)]
+pub struct OpenShrink {
+    pub who: u8,
+    pub obj: Obj,
 }

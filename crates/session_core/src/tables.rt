@@ -6,10 +6,13 @@ ghost use Rattle.history_model.specs.Spans.{Span};
 ghost use Rattle.history_model.specs.Passing.{FirstPass};
 ghost use Rattle.session_core.specs.Acting.{HasActed, HasCalled, IsAt, IsStarting};
 ghost use Rattle.session_core.specs.Making.{not_made};
+ghost use Rattle.session_core.specs.Shrinkers.{AreShrunk};
 ghost use Rattle.session_core.specs.Starting.{IsBusyBy};
 ghost use Rattle.redo_model.specs.Model.{table_named};
 
 use crate::naming::{find_named, is_log_full};
+use crate::session::OpenShrink;
+use crate::shrinkers::shrinker_of;
 use crate::testing::{test_movement, test_table};
 use crate::turned::{Acted, over, refused};
 use disk_model::Disk;
@@ -154,17 +157,17 @@ fn try_movement<D: Disk>(
     }
 }
 
-/// `movement`; `busy` is another session whose shrink of the table is under way.
+/// `movement`. The list has the shrinks of other sessions that are under way: one of the table refuses it.
 pub fn set_movement<D: Disk>(
     alloc: Global,
     store: &mut Store<D>,
     own: Option<TxnId>,
-    busy: Option<u8>,
+    shrinks: &[OpenShrink],
     table: &Name,
     on: bool,
 ) -> Result<Acted, StoreFault>
     requires unspent { store.old.fault ≡ None }
-    ensures acted { (x : Span) → IsAt D.meaning x own store.old → IsStarting x → IsBusyBy x table.now busy → HasActed D.meaning x (Some (asked.Movement table.now on)) store.old store.new result }
+    ensures acted { (x : Span) → IsAt D.meaning x own store.old → IsStarting x → AreShrunk x shrinks.now → HasActed D.meaning x (Some (asked.Movement table.now on)) store.old store.new result }
     ensures called { HasCalled D.meaning store.old store.new result }
 {
     let named = match find_named(alloc, store, table) {
@@ -172,7 +175,7 @@ pub fn set_movement<D: Disk>(
         Err(fault) => return Err(fault),
     };
     match named.obj {
-        Some(obj) => try_movement(alloc, store, own, busy, obj, table, on),
+        Some(obj) => try_movement(alloc, store, own, shrinker_of(shrinks, obj), obj, table, on),
         None => Ok(refused(Refusal::NoTable, own)),
     }
 }

@@ -7,14 +7,14 @@ use history_text::{Outcome, Refusal};
 use seg_base::TxnId;
 
 /// The statement goes on, or it is over.
-#[derive(Debug, Drop)]
+#[derive(Drop)]
 pub enum Turned {
     On(Doing),
     Over { outcome: Outcome, kept: Kept },
 }
 
 /// What an event did that didn't fail, and the session's transaction afterwards.
-#[derive(Debug, Drop)]
+#[derive(Drop)]
 pub struct Acted {
     pub turned: Turned,
     pub own: Option<TxnId>,

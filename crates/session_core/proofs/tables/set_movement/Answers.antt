@@ -1,4 +1,5 @@
-use Rattle.std.proofs.Common.{sym, ◌∙◌}
+use Rattle.std.proofs.Common.{sym, ◌∙◌, subst, Option, ℕ}
+use Rattle.session_core.specs.Starting.{IsBusyBy}
 use Rattle.session_core.proofs.Calls.{acted_as, acted_told, acted_after, acted_looked, looked_stays, stayed_at}
 use Rattle.session_core.proofs.Checks.{movement_untold}
 use Rattle.session_core.proofs.MakingTables.{first_turns, begun_named}
@@ -13,7 +14,9 @@ returns-in-Some-clause-acted g c = λ x at h busy.
     let a = c.args.store.now in
     let b = c.find_named.new.store in
     let stays = looked_stays M x c.args.own a b c.in-Ok.named at c.in-Ok.ensures.looked in
-    acted_after M x _ a b c.try_movement.new.store c.try_movement.result stays (c.try_movement.ensures.acted x (stayed_at M x c.args.own a b at stays) h busy (sym (c.in-Ok.ensures.says x.ended at.stands).obj ∙ c.in-Some.is))
+    let there = sym (c.in-Ok.ensures.says x.ended at.stands).obj ∙ c.in-Some.is in
+    let told = subst (λ (v : Option ℕ). IsBusyBy x c.args.table.now v) (sym c.shrinker_of.ensures) (busy c.args.table.now c.in-Some.obj there) in
+    acted_after M x _ a b c.try_movement.new.store c.try_movement.result stays (c.try_movement.ensures.acted x (stayed_at M x c.args.own a b at stays) h told there)
 
 pub returns-in-None-clause-acted : goal.returns-in-None-clause-acted
 returns-in-None-clause-acted g c = λ x at h busy.

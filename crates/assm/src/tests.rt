@@ -1,6 +1,7 @@
 // What no clause says: that memory in plenty is enough, the bytes that are made, and texts against the formats page. What a
 // run over real files prints is the crate's stored run.
 mod rows;
+mod shrinks;
 
 use crate::status::{Status, StatusLine};
 use crate::top::run_program;

@@ -7,4 +7,5 @@ pub mod Turns
 pub mod Running
 pub mod Steps
 pub mod Paying
-pub mod Shrinking
+pub mod Shrinkers
+pub mod ShrinkParts

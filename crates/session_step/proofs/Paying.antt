@@ -1,5 +1,5 @@
 -- What a session owes, settled before its next statement.
-use Rattle.std.proofs.Common.{◌≡◌, ℕ, true, false, List, [], ◌∷◌, Option, refl, sym, ◌∙◌, ap, ap₂, subst, le_trans, inl, inr}
+use Rattle.std.proofs.Common.{◌≡◌, ℕ, true, false, List, [], ◌∷◌, length, Option, refl, sym, ◌∙◌, ap, ap₂, subst, le_trans, inl, inr}
 use Rattle.std.specs.Prelude.{Ok, Err, Result, IfErr, OnOk, OnErr}
 use Rattle.seg_words.specs.Types.{Shape}
 use Rattle.disk_model.specs.Crash.{Meaning}
@@ -11,12 +11,13 @@ use Rattle.history_model.specs.declared.history.HistoryItem.{HistoryItem}
 use Rattle.history_model.specs.History.{IsSession}
 use Rattle.history_model.specs.Legal.{IsLegal}
 use Rattle.session_model.specs.Sessions.{Session}
-use Rattle.session_model.specs.Worlds.{IsWorld}
+use Rattle.session_model.specs.Worlds.{IsWorld, IsNext}
 use Rattle.session_model.proofs.Settling.{settlings_keep}
 use Rattle.store_core.specs.Store.{Held, IsTrue}
 use Rattle.store_core.specs.Survives.{Survives}
 use Rattle.store_core.specs.Causes.{IsSoundFault}
 use Rattle.store_core.specs.declared.fault.StoreFault.{StoreFault}
+use Rattle.scan_table.specs.Places.{place}
 use Rattle.session_core.specs.declared.dues.Dues.{Dues}
 use Rattle.session_core.specs.Acting.{HasCalled}
 use Rattle.session_core.specs.Located.{KeepsDoing}
@@ -26,12 +27,12 @@ use Rattle.session_core.proofs.Located.{settlings_keep_places}
 use Rattle.session_step.specs.declared.session.Turn.{Turn}
 use Rattle.session_step.specs.declared.session.Turn.TheVariants as turns
 use Rattle.session_step.specs.Bindings.{row_of}
-use Rattle.session_step.specs.Stages.{Stage, IsSameBut, StandsAt, session_at}
+use Rattle.session_step.specs.Stages.{Stage, StandsAt, session_at}
 use Rattle.session_step.specs.Events.{SettlesOne, TurnMakes}
 use Rattle.session_step.specs.Stepping.{HasRun, HasPaidStep, HasStepped, Owes, unowed}
 use Rattle.session_step.proofs.Running.{always, later_in_time}
 use Rattle.session_step.proofs.Steps.{settled_to, world_as, same_next, not_more}
-use Rattle.session_step.proofs.Unmarked.{tidied_own}
+use Rattle.session_step.proofs.Unmarked.{others_same, tidied_own, tidied_releases_none}
 
 -- the first of the blocks that are left was settled
 settles_first : (sh : Shape) (scripts : List (List Statement)) (w : ℕ) (Q R : List Record) (T : List HistoryItem) (es : List (ℕ × ℕ)) → IsSession scripts w → SettlesFirst sh Q R es true → SettlesOne sh scripts w Q T R T
@@ -49,11 +50,12 @@ module _ {D : Type 0} (meaning : Meaning D) (scripts : List (List Statement)) (R
     survives = t.survives;
     time = t.time;
     legal = kept.legal;
-    world = always r (λ next is. world_as a.store.shape scripts R0 t.records a.history sessions next (row_of a.labels) (same_next scripts w sessions next (session_at a.scan a.session) h.is is) kept);
+    world = always r (λ next is. world_as a.store.shape scripts R0 t.records a.history sessions next (row_of a.labels) (same_next a.store.shape scripts w (length R) t.records sessions next (session_at (place w a.scans) a.session) (tidied_releases_none R t.records t.tidied) h.is is) kept);
     own = always r (tidied_own R t.records w t.tidied ∙ h.own);
     shaped = h.shaped;
     held = always r h.held;
     located = always r (settlings_keep_places a.store.shape R t.records a.session.own a.session.doing t.tidied h.located);
+    marks = others_same w (length R) t.records a.scans a.scans (tidied_releases_none R t.records t.tidied) (λ v from ne. refl);
     others = λ v ne. tidied_own R t.records v t.tidied;
     others_located = λ v e ne l. subst (λ (o : Option ℕ). KeepsDoing a.store.shape t.records o e) (sym (tidied_own R t.records v t.tidied)) (settlings_keep_places a.store.shape R t.records (own_of R v) e t.tidied l);
     in_time = λ z. later_in_time (meaning.clock a.store.disk) (meaning.clock s.disk) a.history t.time z;
@@ -75,7 +77,7 @@ module _ {D : Type 0} (meaning : Meaning D) (scripts : List (List Statement)) (R
   pub step_paid_one : (t : HasSettledFirst meaning R a.dues.owed d.owed a.store s (Ok true)) → d.noted ≡ a.dues.noted → s.shape ≡ a.store.shape → StandsAt meaning scripts R0 R sessions w a → HasStepped meaning scripts R0 R sessions w a (settled_to a s d) (Ok turns.Made)
   step_paid_one t noted shape h = record {
     run = settled_run (Ok tt) t.tidies shape h tt;
-    turn = inl (record { same = record { history = refl; scan = refl; labels = refl; session = refl }; dropped = t.dropped; noted = noted; first = t.first });
+    turn = inl (record { same = record { history = refl; scans = refl; labels = refl; session = refl }; dropped = t.dropped; noted = noted; first = t.first });
     makes = inl (settles_first a.store.shape scripts w R t.tidies.records a.history d.owed h.session t.first);
   }
 
@@ -89,10 +91,10 @@ module _ {D : Type 0} (meaning : Meaning D) (scripts : List (List Statement)) (R
     stands = subst (λ (S : List Record). IsTrue meaning S s) t.first.1 t.tidies.stands;
     session = h.session;
     world = subst (λ (z : Shape). IsWorld z scripts R0 R a.history sessions (row_of a.labels)) (sym shape) h.world;
-    unshrunk = h.unshrunk;
+    shrinks = h.shrinks;
     is = h.is;
     own = h.own;
-    shaped = subst (λ (z : Shape). IsShaped z a.scan) (sym shape) h.shaped;
+    shaped = subst (λ (z : Shape). IsShaped z (place w a.scans)) (sym shape) h.shaped;
     held = h.held;
     located = subst (λ (z : Shape). KeepsDoing z R a.session.own a.session.doing) (sym shape) h.located;
   }
@@ -106,11 +108,12 @@ module _ {D : Type 0} (meaning : Meaning D) (scripts : List (List Statement)) (R
     survives = λ since needed v. h.survives since needed (subst (λ (S : List Record). Survives meaning since needed S s) t.first.1 (t.tidies.survives since needed v));
     time = le_trans t.tidies.time h.time;
     legal = subst (λ (z : Shape). IsLegal z scripts R0 h.records b.history) shape h.legal;
-    world = subst (λ (z : Shape). OnOk r ((next : ℕ → Session) → IsSameBut scripts w sessions next (session_at b.scan b.session) → IsWorld z scripts R0 h.records b.history next (row_of b.labels))) shape h.world;
+    world = subst (λ (z : Shape). OnOk r ((next : ℕ → Session) → IsNext z scripts w (length R) h.records sessions next (session_at (place w b.scans) b.session) → IsWorld z scripts R0 h.records b.history next (row_of b.labels))) shape h.world;
     own = h.own;
-    shaped = subst (λ (z : Shape). IsShaped z b.scan) shape h.shaped;
+    shaped = subst (λ (z : Shape). IsShaped z (place w b.scans)) shape h.shaped;
     held = h.held;
     located = subst (λ (z : Shape). OnOk r (KeepsDoing z h.records b.session.own b.session.doing)) shape h.located;
+    marks = h.marks;
     others = h.others;
     others_located = λ v e ne l. subst (λ (z : Shape). KeepsDoing z h.records (own_of h.records v) e) shape (h.others_located v e ne (subst (λ (z : Shape). KeepsDoing z R (own_of R v) e) (sym shape) l));
     in_time = λ z. h.in_time (later_in_time (meaning.clock a.store.disk) (meaning.clock s.disk) a.history t.tidies.time z);
@@ -139,7 +142,7 @@ module _ {D : Type 0} (meaning : Meaning D) (scripts : List (List Statement)) (R
     run = run_after b (Ok tt) t shape h.run;
     turn = record {
       ended = h.turn.0;
-      same = record { history = h.turn.1.history; scan = h.turn.1.scan; labels = h.turn.1.labels; session = h.turn.1.session };
+      same = record { history = h.turn.1.history; scans = h.turn.1.scans; labels = h.turn.1.labels; session = h.turn.1.session };
       paid = paid_all t;
       owed = ap (λ (e : Dues). e.owed) h.turn.2 ∙ t.first.0;
       records = h.turn.3;

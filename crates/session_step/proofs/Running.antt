@@ -5,7 +5,7 @@ use Rattle.seg_words.proofs.Lemmas.{cond-true, cond-false}
 use Rattle.seg_words.specs.Types.{Shape, MOST_SESSIONS}
 use Rattle.disk_model.specs.Crash.{Meaning}
 use Rattle.redo_model.specs.Records.{Record}
-use Rattle.redo_model.specs.Model.{Extends, AreAllowed, IsLawful, prefix, table_named}
+use Rattle.redo_model.specs.Model.{Extends, AreAllowed, IsLawful, prefix}
 use Rattle.redo_laws.proofs.lists.Prefixes.{prefix_longer, prefix_extends, prefix_size}
 use Rattle.script_text.specs.declared.statement.Statement.{Statement}
 use Rattle.script_text.specs.declared.statement.Statement.TheVariants as asked
@@ -16,24 +16,24 @@ use Rattle.history_model.specs.declared.history.HistoryItem.{HistoryItem}
 use Rattle.history_model.specs.declared.history.HistoryItem.TheVariants as item
 use Rattle.history_model.specs.History.{Task, script_of, statement_of, ordinal_of, AreInTime}
 use Rattle.history_model.specs.Spans.{Span}
-use Rattle.history_model.specs.Causes.{IsShrunkBy}
 use Rattle.history_model.specs.Legal.{IsLegal}
 use Rattle.history_laws.specs.Events.{Goes}
 use Rattle.history_laws.specs.Working.{now_of, later}
 use Rattle.history_laws.specs.Telling.{entry_now}
 use Rattle.history_laws.proofs.Frames.{events_leave_transactions}
 use Rattle.session_model.specs.Doings.{Doing, Waiting}
-use Rattle.session_model.specs.Sessions.{Session}
+use Rattle.session_model.specs.Sessions.{Session, session_since}
 use Rattle.session_model.specs.Worlds.{IsWorld, IsReady, Midway, Acts, GoesOn, IsOverWith, IsNext}
 use Rattle.session_model.specs.Laws.{Binds}
 use Rattle.session_model.proofs.Alone.{done_extends}
 use Rattle.session_model.proofs.Going.{acts_go}
-use Rattle.session_model.proofs.Events.{events_go_on, events_end, events_fail, none_is_busy}
+use Rattle.session_model.proofs.Events.{events_go_on, events_end, events_fail, none_is_busy, shrinks_are_busy}
 use Rattle.store_core.specs.Store.{Held, IsTrue}
 use Rattle.store_core.specs.Causes.{IsSoundFault}
 use Rattle.store_core.specs.declared.fault.StoreFault.{StoreFault}
 use Rattle.store_core.specs.declared.fault.StoreFault.TheVariants.{NoMemory}
 use Rattle.scan_table.specs.declared.scan.OpenScan.{OpenScan}
+use Rattle.scan_table.specs.Places.{place}
 use Rattle.session_core.specs.declared.session.Doing.{Doing as ToldDoing}
 use Rattle.session_core.specs.declared.session.Doing.TheVariants as told
 use Rattle.session_core.specs.declared.turned.Turned.{Turned}
@@ -46,15 +46,16 @@ use Rattle.session_core.specs.Dues.{noted_after}
 use Rattle.session_core.specs.Acked.{AcksOutcome, AcksTurned}
 use Rattle.session_core.specs.Located.{KeepsDoing, KeepsTurned}
 use Rattle.session_core.specs.Scanned.{IsKept, TurnsAt, doing_at}
+use Rattle.session_core.specs.Shrinkers.{shrinker_of}
+use Rattle.session_core.specs.Starting.{IsBusyBy}
 use Rattle.session_core.proofs.Located.{others_keep_places}
 use Rattle.session_step.specs.declared.session.Session.{Session as Told}
 use Rattle.session_step.specs.Bindings.{row_of, AreBoundOf, AreBoundTurned, inserted_row}
-use Rattle.session_step.specs.Stages.{Stage, IsHeld, IsMidway, IsSameBut, session_at}
-use Rattle.session_step.specs.Turning.{IsBuilt, IsTurnOf, HasTurned}
+use Rattle.session_step.specs.Stages.{Stage, IsHeld, IsMidway, IsShrinker, session_at}
+use Rattle.session_step.specs.Turning.{IsTurnOf, KnowsShrinks, HasTurned}
 use Rattle.session_step.specs.Telling.{entry_ordinal, Finishes, IsAcked, IsEntryOf, OfNewest}
 use Rattle.session_step.specs.Events.{Closes, closes_none, closes_one}
 use Rattle.session_step.specs.Stepping.{HasRunOn, Owes}
-use Rattle.session_step.proofs.Unmarked.{IsBuiltOne, session_unmarked}
 
 -- a statement by its place in its session's script
 at_place : (scripts : List (List Statement)) (script : List Statement) (w n : ℕ) → script_of scripts w ≡ script → slice_get script n ≡ statement_of scripts w n
@@ -73,40 +74,35 @@ acts_extend sh x st R a = done_extends sh x.scripts x.past x.session st x.ended 
 acts_as : (sh : Shape) (x : Span) (st st' : Option Statement) (R : List Record) → st ≡ st' → Acts sh x st R → Acts sh x st' R
 acts_as sh x st st' R e a = subst (λ (z : Option Statement). Acts sh x z R) e a
 
-abbrev pub AllBuilt : List Statement → Type 0
-AllBuilt script = (i : ℕ) (st : Statement) → slice_get script i ≡ Some st → IsBuilt st
-
-built_one : (st : Option Statement) → ((y : Statement) → st ≡ Some y → IsBuilt y) → IsBuiltOne st
-built_one None h = tt
-built_one (Some st) h = h st refl
-
 -- ---- what the statement's event finds in the midst of the run
 
-pub turn_now : {D : Type 0} (meaning : Meaning D) (scripts : List (List Statement)) (script : List Statement) (R0 R : List Record) (sessions : ℕ → Session) (w : ℕ) (task : Task) (a : Stage D) → 1 ≤ w → w ≤ MOST_SESSIONS → a.store.fault ≡ None → script_of scripts w ≡ script
-    → IsMidway meaning scripts R0 R sessions w task a → IsTurnOf meaning (now_of scripts R w task) (slice_get script a.session.told) w a.session.own a.labels a.scan a.session.doing a.store
+waits_at : (p : Option OpenScan) (d : ToldDoing) → d ≡ told.Waiting → doing_at p d ≡ Waiting
+waits_at p d e = ap (λ (z : ToldDoing). doing_at p z) e
+
+pub turn_now : {D : Type 0} (meaning : Meaning D) (scripts : List (List Statement)) (script : List Statement) (R0 R : List Record) (sessions : ℕ → Session) (w : ℕ) (task : Task) (a : Stage D) → 1 ≤ w → w ≤ MOST_SESSIONS → a.store.fault ≡ None → script_of scripts w ≡ script → IsMidway meaning scripts R0 R sessions w task a → IsTurnOf meaning (now_of scripts R w task) (slice_get script a.session.told) w a.session.own a.labels (place w a.scans) a.session.doing a.store
 turn_now meaning scripts script R0 R sessions w task a from to unspent e m = record {
   at = record { stands = m.stands; unspent = unspent; own_is = m.own };
   by = record { session = refl; from = from; to = to };
   extends = prefix_extends R task.begins;
-  ready = subst (λ (o : Option Statement). IsReady a.store.shape (now_of scripts R w task) o (doing_at a.scan a.session.doing)) (sym (at_place scripts script w a.session.told e)) m.midway.ready;
+  ready = subst (λ (o : Option Statement). IsReady a.store.shape (now_of scripts R w task) o (doing_at (place w a.scans) a.session.doing)) (sym (at_place scripts script w a.session.told e)) m.midway.ready;
   whole = m.midway.whole;
-  fresh = λ y. record { labelled = (m.midway.first (waits y)).labelled; unshrunk = λ name v h. unshrunk y name v h };
+  labelled = λ y. (m.midway.first (waits_at (place w a.scans) a.session.doing y)).labelled;
   shaped = m.shaped;
   held = m.held;
   located = m.located;
 }
+
+-- as it starts the list tells which other session's shrink is the cause of a refusal
+pub knows_now : {D : Type 0} (meaning : Meaning D) (scripts : List (List Statement)) (R0 R : List Record) (sessions : ℕ → Session) (w : ℕ) (task : Task) (a : Stage D) (d : ToldDoing) → d ≡ a.session.doing → IsMidway meaning scripts R0 R sessions w task a → KnowsShrinks (now_of scripts R w task) a.shrinks d
+knows_now meaning scripts R0 R sessions w task a d same m y name o named = tells (shrinker_of a.shrinks o) (m.shrinks o)
   where
-    waits : a.session.doing ≡ told.Waiting → doing_at a.scan a.session.doing ≡ Waiting
-    waits y = ap (λ (d : ToldDoing). doing_at a.scan d) y
+    waits : doing_at (place w a.scans) a.session.doing ≡ Waiting
+    waits = waits_at (place w a.scans) a.session.doing (sym same ∙ y)
 
-    begun : a.session.doing ≡ told.Waiting → prefix R task.begins ≡ R
-    begun y = subst (λ (d : Doing). IsReady a.store.shape (now_of scripts R w task) (statement_of scripts w a.session.told) d) (waits y) m.midway.ready
+    tells : (q : Option ℕ) → IsShrinker scripts sessions w o q → IsBusyBy (now_of scripts R w task) name q
+    tells None h = none_is_busy a.store.shape scripts R0 R a.history sessions (row_of a.labels) w task (session_at (place w a.scans) a.session) name o waits m.midway named h
+    tells (Some v) h = shrinks_are_busy a.store.shape scripts R0 R a.history sessions (row_of a.labels) w task (session_at (place w a.scans) a.session) name o v waits m.midway named h.0 h.1 h.2
 
-    unshrunk : a.session.doing ≡ told.Waiting → (name : List ℕ) (v : ℕ) → IsShrunkBy (now_of scripts R w task) name v → ⊥
-    unshrunk y name v h = none_is_busy a.store.shape scripts R0 R a.history sessions (row_of a.labels) w task (session_at a.scan a.session) name h.obj (waits y) m.midway
-        (subst (λ (B : List Record). table_named B name ≡ Some h.obj) (begun y) h.table) (λ u session ne s. m.unshrunk u h.obj session s) v h
-
--- a session's end has a transaction to take back
 -- of what it was at, taken out of it
 pub turn_taken : {D : Type 0} (meaning : Meaning D) (x : Span) (st : Option Statement) (w : ℕ) (own : Option ℕ) (labels : List (List ℕ × ℕ)) (p : Option OpenScan) (d e : ToldDoing) (s : Held D) → d ≡ e → IsTurnOf meaning x st w own labels p e s → IsTurnOf meaning x st w own labels p d s
 turn_taken meaning x st w own labels p d e s same t = subst (λ (z : ToldDoing). IsTurnOf meaning x st w own labels p z s) (sym same) t
@@ -115,6 +111,7 @@ turn_taken meaning x st w own labels p d e s same t = subst (λ (z : ToldDoing).
 pub begins_now : {D : Type 0} (meaning : Meaning D) (scripts : List (List Statement)) (R0 R : List Record) (sessions : ℕ → Session) (w : ℕ) (task : Task) (a : Stage D) → IsMidway meaning scripts R0 R sessions w task a → a.session.begins ≡ length (prefix R task.begins)
 begins_now meaning scripts R0 R sessions w task a m = sym m.midway.begins ∙ sym (prefix_size R task.begins m.midway.within)
 
+-- a session's end has a transaction to take back
 pub closing_now : {D : Type 0} (meaning : Meaning D) (scripts : List (List Statement)) (script : List Statement) (R0 R : List Record) (sessions : ℕ → Session) (w : ℕ) (task : Task) (a : Stage D) → script_of scripts w ≡ script → IsMidway meaning scripts R0 R sessions w task a → slice_get script a.session.told ≡ None
     → a.session.own ≡ None → ⊥
 closing_now meaning scripts script R0 R sessions w task a e m z n = m.midway.closing (sym (at_place scripts script w a.session.told e) ∙ z) (m.own ∙ n)
@@ -138,7 +135,7 @@ finished_in_time w k n before now (turned.Over outcome kept) own s t T U l f h =
 -- ---- an event that fails
 
 pub run_fails : {D : Type 0} (meaning : Meaning D) (scripts : List (List Statement)) (script : List Statement) (R0 R : List Record) (sessions : ℕ → Session) (w : ℕ) (task : Task) (a b : Stage D) (r : Result Acted StoreFault) (f : StoreFault) → b.store.shape ≡ a.store.shape → b.history ≡ a.history → b.session.told ≡ a.session.told
-    → IsSoundFault f → script_of scripts w ≡ script → IsMidway meaning scripts R0 R sessions w task a → HasTurned meaning (now_of scripts R w task) (slice_get script a.session.told) b.scan a.store b.store r → HasRunOn meaning scripts R0 R sessions w a b (Err f)
+    → IsSoundFault f → script_of scripts w ≡ script → IsMidway meaning scripts R0 R sessions w task a → HasTurned meaning (now_of scripts R w task) (slice_get script a.session.told) w a.scans b.scans a.store b.store r → HasRunOn meaning scripts R0 R sessions w a b (Err f)
 run_fails meaning scripts script R0 R sessions w task a b r f shape alike same sound e m h = record {
   run = record {
     records = h.acted.records;
@@ -146,12 +143,13 @@ run_fails meaning scripts script R0 R sessions w task a b r f shape alike same s
     stable = h.acted.stable;
     survives = h.acted.survives;
     time = h.acted.time;
-    legal = subst (IsLegal a.store.shape scripts R0 h.acted.records) (sym alike) (events_fail a.store.shape scripts R0 R h.acted.records a.history sessions (row_of a.labels) w task (session_at a.scan a.session) lawful m.midway acts);
+    legal = subst (IsLegal a.store.shape scripts R0 h.acted.records) (sym alike) (events_fail a.store.shape scripts R0 R h.acted.records a.history sessions (row_of a.labels) w task (session_at (place w a.scans) a.session) lawful m.midway acts);
     world = tt;
     own = tt;
     shaped = h.acted.placed;
     held = tt;
     located = tt;
+    marks = h.marks;
     others = λ v ne. events_leave_transactions a.store.shape scripts a.history w R h.acted.records v lawful.allowed (λ z. ne (sym z)) goes;
     others_located = λ v d ne k. others_keep_places a.store.shape scripts a.history w R h.acted.records v d lawful.allowed (λ z. ne (sym z)) goes k;
     in_time = λ z. subst (AreInTime (meaning.clock b.store.disk)) (sym alike) (later_in_time (meaning.clock a.store.disk) (meaning.clock b.store.disk) a.history h.acted.time z);
@@ -170,24 +168,16 @@ run_fails meaning scripts script R0 R sessions w task a b r f shape alike same s
     acts = acts_as a.store.shape (now_of scripts R w task) (slice_get script a.session.told) (statement_of scripts w a.session.told) h.acted.records (at_place scripts script w a.session.told e) h.acted.acts
 
     goes : Goes a.store.shape scripts a.history w R h.acted.records
-    goes = goes_now a.store.shape scripts R0 R h.acted.records a.history sessions (row_of a.labels) w task (session_at a.scan a.session) lawful.allowed m.midway acts
+    goes = goes_now a.store.shape scripts R0 R h.acted.records a.history sessions (row_of a.labels) w task (session_at (place w a.scans) a.session) lawful.allowed m.midway acts
 
 -- ---- one that goes on, or ends
 
--- the others are as they were
-next_of : (sh : Shape) (scripts : List (List Statement)) (w : ℕ) (task : Task) (st : Option Statement) (Q R : List Record) (sessions next : ℕ → Session) (s : Session) → ((y : Statement) → st ≡ Some y → IsBuilt y) → Acts sh (now_of scripts Q w task) st R → IsSameBut scripts w sessions next s
-    → IsNext sh scripts w (length Q) R sessions next s
-next_of sh scripts w task st Q R sessions next s built x is = record {
-  own = is.own;
-  others = λ v session ne. is.others v session ne ∙ sym (session_unmarked sh scripts task.past w st Q R (sessions v) (built_one st built) x.done);
-}
-
 -- the session as it is now, and the others
-abbrev next_sessions : ℕ → (ℕ → Session) → Session → ℕ → Session
-next_sessions w sessions s v = cond (eqb v w) s (sessions v)
+abbrev next_sessions : Shape → ℕ → ℕ → List Record → (ℕ → Session) → Session → ℕ → Session
+next_sessions sh w n R sessions s v = cond (eqb v w) s (session_since sh n R (sessions v))
 
-next_is : (scripts : List (List Statement)) (w : ℕ) (sessions : ℕ → Session) (s : Session) → IsSameBut scripts w sessions (next_sessions w sessions s) s
-next_is scripts w sessions s = record {
+next_is : (sh : Shape) (scripts : List (List Statement)) (w n : ℕ) (R : List Record) (sessions : ℕ → Session) (s : Session) → IsNext sh scripts w n R sessions (next_sessions sh w n R sessions s) s
+next_is sh scripts w n R sessions s = record {
   own = cond-true _ _ _ (eq-eqb w w refl);
   others = λ v session ne. cond-false _ _ _ (ne_eqb v w ne);
 }
@@ -240,6 +230,8 @@ held_on q (told.TakingBack t) h = h
 held_on q (told.OnRow k) h = h
 held_on q told.Scanning h = h
 held_on q (told.Repairing w) h = h
+held_on q (told.Shrinking w) h = h
+held_on q (told.Lowering w) h = h
 
 finished_held : (q : Option OpenScan) (w n k moment : ℕ) (v : Turned) (own : Option ℕ) (s t : Told) (T U : List HistoryItem) → IsKept q v → Finishes w n k moment (record { turned = v; own = own }) s t T U → IsHeld q t.doing
 finished_held q w n k moment (turned.On d) own s t T U h f = subst (λ (z : Told). IsHeld q z.doing) (sym f.0) (held_on q d h)
@@ -268,22 +260,23 @@ closes_told w k n moment (turned.On d) own s t T U R l f = subst (Closes R w T) 
 closes_told w k n moment (turned.Over outcome kept) own s t T U R l f =
     subst (Closes R w T) (sym f.1) (closes_one (record { session = w; ordinal = entry_ordinal k s.told; begins = s.begins; ends = n; moment = moment; outcome = outcome }) kept refl l)
 
-pub run_done : {D : Type 0} (meaning : Meaning D) (scripts : List (List Statement)) (script : List Statement) (R0 R : List Record) (sessions : ℕ → Session) (w : ℕ) (task : Task) (a b : Stage D) (z : Acted) → b.store.shape ≡ a.store.shape → script_of scripts w ≡ script → AllBuilt script → IsMidway meaning scripts R0 R sessions w task a
-    → HasTurned meaning (now_of scripts R w task) (slice_get script a.session.told) b.scan a.store b.store (Ok z) → AreBoundTurned (slice_get script a.session.told) z.turned a.labels b.labels
+pub run_done : {D : Type 0} (meaning : Meaning D) (scripts : List (List Statement)) (script : List Statement) (R0 R : List Record) (sessions : ℕ → Session) (w : ℕ) (task : Task) (a b : Stage D) (z : Acted) → b.store.shape ≡ a.store.shape → script_of scripts w ≡ script → IsMidway meaning scripts R0 R sessions w task a
+    → HasTurned meaning (now_of scripts R w task) (slice_get script a.session.told) w a.scans b.scans a.store b.store (Ok z) → AreBoundTurned (slice_get script a.session.told) z.turned a.labels b.labels
     → Finishes w (length script) b.store.log.count (meaning.clock b.store.disk) z a.session b.session a.history b.history → HasRunOn meaning scripts R0 R sessions w a b (Ok tt)
-run_done meaning scripts script R0 R sessions w task a b z shape e built m h bound f = record {
+run_done meaning scripts script R0 R sessions w task a b z shape e m h bound f = record {
   run = record {
     records = h.acted.records;
     stands = h.acted.stands;
     stable = h.acted.stable;
     survives = h.acted.survives;
     time = h.acted.time;
-    legal = (world (next_sessions w sessions (session_at b.scan b.session)) (next_is scripts w sessions (session_at b.scan b.session))).legal;
+    legal = (world (next_sessions a.store.shape w (length R) h.acted.records sessions (session_at (place w b.scans) b.session)) (next_is a.store.shape scripts w (length R) h.acted.records sessions (session_at (place w b.scans) b.session))).legal;
     world = world;
     own = h.acted.turns.own ∙ sym (finished_own w (length script) b.store.log.count (meaning.clock b.store.disk) z.turned z.own a.session b.session a.history b.history f);
     shaped = h.acted.placed;
-    held = finished_held b.scan w (length script) b.store.log.count (meaning.clock b.store.disk) z.turned z.own a.session b.session a.history b.history h.kept f;
+    held = finished_held (place w b.scans) w (length script) b.store.log.count (meaning.clock b.store.disk) z.turned z.own a.session b.session a.history b.history h.kept f;
     located = finished_located a.store.shape h.acted.records w (length script) b.store.log.count (meaning.clock b.store.disk) z.turned z.own a.session b.session a.history b.history h.acted.turns.kept f;
+    marks = h.marks;
     others = λ v ne. events_leave_transactions a.store.shape scripts a.history w R h.acted.records v lawful.allowed (λ y. ne (sym y)) goes;
     others_located = λ v d ne k. others_keep_places a.store.shape scripts a.history w R h.acted.records v d lawful.allowed (λ y. ne (sym y)) goes k;
     in_time = finished_in_time w (length script) b.store.log.count (meaning.clock a.store.disk) (meaning.clock b.store.disk) z.turned z.own a.session b.session a.history b.history h.acted.time f;
@@ -295,8 +288,8 @@ run_done meaning scripts script R0 R sessions w task a b z shape e built m h bou
   closes = closes_told w (length script) b.store.log.count (meaning.clock b.store.disk) z.turned z.own a.session b.session a.history b.history h.acted.records count f;
 }
   where
-    place : slice_get script a.session.told ≡ statement_of scripts w a.session.told
-    place = at_place scripts script w a.session.told e
+    there : slice_get script a.session.told ≡ statement_of scripts w a.session.told
+    there = at_place scripts script w a.session.told e
 
     lawful : IsLawful a.store.shape h.acted.records
     lawful = subst (λ (y : Shape). IsLawful y h.acted.records) shape h.acted.stands.lawful
@@ -305,16 +298,15 @@ run_done meaning scripts script R0 R sessions w task a b z shape e built m h bou
     count = counted meaning h.acted.records b.store h.acted.stands
 
     acts : Acts a.store.shape (now_of scripts R w task) (statement_of scripts w a.session.told) h.acted.records
-    acts = acts_as a.store.shape (now_of scripts R w task) (slice_get script a.session.told) (statement_of scripts w a.session.told) h.acted.records place h.acted.acts
+    acts = acts_as a.store.shape (now_of scripts R w task) (slice_get script a.session.told) (statement_of scripts w a.session.told) h.acted.records there h.acted.acts
 
     goes : Goes a.store.shape scripts a.history w R h.acted.records
-    goes = goes_now a.store.shape scripts R0 R h.acted.records a.history sessions (row_of a.labels) w task (session_at a.scan a.session) lawful.allowed m.midway acts
+    goes = goes_now a.store.shape scripts R0 R h.acted.records a.history sessions (row_of a.labels) w task (session_at (place w a.scans) a.session) lawful.allowed m.midway acts
 
-    world : (next : ℕ → Session) → IsSameBut scripts w sessions next (session_at b.scan b.session) → IsWorld a.store.shape scripts R0 h.acted.records b.history next (row_of b.labels)
-    world next is = run_world a.store.shape scripts script R0 R h.acted.records a.history b.history sessions next a.labels b.labels w task a.scan b.scan a.session b.session b.store.log.count (meaning.clock b.store.disk) z.own z.turned lawful count e m.midway acts
-        (subst (λ (y : Option Statement). TurnsAt b.scan a.store.shape (later (now_of scripts R w task) h.acted.records) y z.turned) place h.acted.turns.turns)
-        (subst (λ (y : Option Statement). AreBoundTurned y z.turned a.labels b.labels) place bound) f
-        (next_of a.store.shape scripts w task (statement_of scripts w a.session.told) R h.acted.records sessions next (session_at b.scan b.session) (λ y k. built a.session.told y (place ∙ k)) acts is)
+    world : (next : ℕ → Session) → IsNext a.store.shape scripts w (length R) h.acted.records sessions next (session_at (place w b.scans) b.session) → IsWorld a.store.shape scripts R0 h.acted.records b.history next (row_of b.labels)
+    world next is = run_world a.store.shape scripts script R0 R h.acted.records a.history b.history sessions next a.labels b.labels w task (place w a.scans) (place w b.scans) a.session b.session b.store.log.count (meaning.clock b.store.disk) z.own z.turned lawful count e m.midway acts
+        (subst (λ (y : Option Statement). TurnsAt (place w b.scans) a.store.shape (later (now_of scripts R w task) h.acted.records) y z.turned) there h.acted.turns.turns)
+        (subst (λ (y : Option Statement). AreBoundTurned y z.turned a.labels b.labels) there bound) f is
 
 -- ---- what is told after the event, whatever comes of it
 
@@ -325,11 +317,10 @@ always (Err f) p = tt
 pub finishes_as : (w k n n' m m' : ℕ) (a : Acted) (s t : Told) (T U : List HistoryItem) → n ≡ n' → m ≡ m' → Finishes w k n m a s t T U → Finishes w k n' m' a s t T U
 finishes_as w k n n' m m' a s t T U e f h = subst (λ (z : ℕ). Finishes w k n' z a s t T U) f (subst (λ (z : ℕ). Finishes w k z m a s t T U) e h)
 
-pub run_told : {D : Type 0} (meaning : Meaning D) (scripts : List (List Statement)) (script : List Statement) (R0 R : List Record) (sessions : ℕ → Session) (w : ℕ) (task : Task) (a b : Stage D) (u : Told) (z : Acted) (r : Result (Unit {0}) StoreFault) → u.told ≡ a.session.told → b.store.shape ≡ a.store.shape → script_of scripts w ≡ script → AllBuilt script
-    → IsMidway meaning scripts R0 R sessions w task a → HasTurned meaning (now_of scripts R w task) (slice_get script a.session.told) b.scan a.store b.store (Ok z) → OnOk r (AreBoundTurned (slice_get script a.session.told) z.turned a.labels b.labels)
+pub run_told : {D : Type 0} (meaning : Meaning D) (scripts : List (List Statement)) (script : List Statement) (R0 R : List Record) (sessions : ℕ → Session) (w : ℕ) (task : Task) (a b : Stage D) (u : Told) (z : Acted) (r : Result (Unit {0}) StoreFault) → u.told ≡ a.session.told → b.store.shape ≡ a.store.shape → script_of scripts w ≡ script → IsMidway meaning scripts R0 R sessions w task a → HasTurned meaning (now_of scripts R w task) (slice_get script a.session.told) w a.scans b.scans a.store b.store (Ok z) → OnOk r (AreBoundTurned (slice_get script a.session.told) z.turned a.labels b.labels)
     → OnOk r (Finishes w (length script) b.store.log.count (meaning.clock b.store.disk) z a.session b.session a.history b.history) → OnErr r ((b.session ≡ u) × (b.history ≡ a.history)) → IfErr r (λ f. f ≡ NoMemory) → HasRunOn meaning scripts R0 R sessions w a b r
-run_told meaning scripts script R0 R sessions w task a b u z (Ok done) counts shape e built m h bound f same cause = run_done meaning scripts script R0 R sessions w task a b z shape e built m h bound f
-run_told meaning scripts script R0 R sessions w task a b u z (Err y) counts shape e built m h bound f same cause = run_fails meaning scripts script R0 R sessions w task a b (Ok z) y shape same.1 (ap (λ (t : Told). t.told) same.0 ∙ counts) (subst IsSoundFault (sym cause) tt) e m h
+run_told meaning scripts script R0 R sessions w task a b u z (Ok done) counts shape e m h bound f same cause = run_done meaning scripts script R0 R sessions w task a b z shape e m h bound f
+run_told meaning scripts script R0 R sessions w task a b u z (Err y) counts shape e m h bound f same cause = run_fails meaning scripts script R0 R sessions w task a b (Ok z) y shape same.1 (ap (λ (t : Told). t.told) same.0 ∙ counts) (subst IsSoundFault (sym cause) tt) e m h
 
 -- what the session was at as its event began is told no more
 finishes_at : (w k n m : ℕ) (v : Turned) (own : Option ℕ) (d : ToldDoing) (s t : Told) (T U : List HistoryItem) → Finishes w k n m (record { turned = v; own = own }) (record { told = s.told; begins = s.begins; doing = d; own = s.own }) t T U → Finishes w k n m (record { turned = v; own = own }) s t T U

@@ -11,7 +11,7 @@ use Rattle.script_text.specs.declared.statement.Target.TheVariants.{Label, Numbe
 use Rattle.history_model.specs.History.{bound}
 use Rattle.history_model.specs.Spans.{Span, target_row}
 use Rattle.history_laws.specs.Acting.{TakesBack}
-use Rattle.history_laws.specs.Working.{Work, BackStands, RowWork, RowStands, OpenScan, Inserting, OnRow, Scanning, TakingBack, WorkStands}
+use Rattle.history_laws.specs.Working.{Work, BackStands, RowWork, RowStands, OpenScan, MoveWork, StoppedWork, Inserting, OnRow, Scanning, TakingBack, Shrinking, Lowering, WorkStands}
 use Rattle.session_model.specs.Doings.{Working, Repairing, takes_back}
 use Rattle.session_model.specs.Repairs.{RepairWork, RepairFits}
 use Rattle.session_model.specs.Worlds.{IsReady}
@@ -28,11 +28,12 @@ use Rattle.session_core.specs.Inserts.{IsInserting}
 use Rattle.session_core.specs.RowWorks.{work_of}
 use Rattle.session_core.specs.RepairWorks.{repair_of}
 use Rattle.session_core.specs.RepairEvents.{IsRepairing}
+use Rattle.session_core.specs.ShrinkWorks.{shrink_of, lower_of}
 use Rattle.session_core.specs.Scanned.{doing_at, scan_in}
 use Rattle.session_core.proofs.NewRows.{insert_under_way, still_named}
 use Rattle.session_step.specs.Bindings.{row_of, row_by}
 use Rattle.session_step.specs.Stages.{IsHeld}
-use Rattle.session_step.specs.Turning.{IsFresh, IsTurnOf, inserting_in, work_in, repairing_in, backing_in}
+use Rattle.session_step.specs.Turning.{IsTurnOf, inserting_in, work_in, repairing_in, backing_in}
 
 -- ---- what is under way of which statement
 
@@ -68,6 +69,8 @@ once_waits sh x st p (told.TakingBack t) o r = absurd (never_works sh x st (Taki
 once_waits sh x st p (told.OnRow w) o r = absurd (never_works sh x st (OnRow (work_of w)) o r.1)
 once_waits sh x st p told.Scanning o r = absurd (never_works sh x st (Scanning (scan_in p)) o r.1)
 once_waits sh x st p (told.Repairing w) o r = absurd (never_repairs sh x st (repair_of w) o r.1)
+once_waits sh x st p (told.Shrinking w) o r = absurd (never_works sh x st (Shrinking (shrink_of w)) o r.1)
+once_waits sh x st p (told.Lowering w) o r = absurd (never_works sh x st (Lowering (lower_of w)) o r.1)
 
 insert_waits : (sh : Shape) (x : Span) (name label text : List ℕ) (p : Option TheScan) (d : Told) → inserting_in d ≡ None → IsReady sh x (Some (asked.Insert name label text)) (doing_at p d) → d ≡ told.Waiting
 insert_waits sh x name label text p told.Waiting e r = refl
@@ -76,6 +79,8 @@ insert_waits sh x name label text p (told.TakingBack t) e r = absurd r.1
 insert_waits sh x name label text p (told.OnRow w) e r = absurd r.1
 insert_waits sh x name label text p told.Scanning e r = absurd r.1
 insert_waits sh x name label text p (told.Repairing w) e r = absurd r.1
+insert_waits sh x name label text p (told.Shrinking w) e r = absurd r.1
+insert_waits sh x name label text p (told.Lowering w) e r = absurd r.1
 
 inserting_is : (d : Told) (o : ℕ) → inserting_in d ≡ Some o → d ≡ told.Inserting o
 inserting_is told.Waiting o e = absurd (let z : ◌≡◌ {A = Option ℕ} None (Some o) = e in cc)
@@ -84,6 +89,8 @@ inserting_is (told.TakingBack t) o e = absurd (let z : ◌≡◌ {A = Option ℕ
 inserting_is (told.OnRow w) o e = absurd (let z : ◌≡◌ {A = Option ℕ} None (Some o) = e in cc)
 inserting_is told.Scanning o e = absurd (let z : ◌≡◌ {A = Option ℕ} None (Some o) = e in cc)
 inserting_is (told.Repairing w) o e = absurd (let z : ◌≡◌ {A = Option ℕ} None (Some o) = e in cc)
+inserting_is (told.Shrinking w) o e = absurd (let z : ◌≡◌ {A = Option ℕ} None (Some o) = e in cc)
+inserting_is (told.Lowering w) o e = absurd (let z : ◌≡◌ {A = Option ℕ} None (Some o) = e in cc)
 
 -- an update or a delete is at a work of its own
 row_never : (sh : Shape) (x : Span) (st : Statement) (t : ℕ) → IsRowChange st → WorkStands sh x (Some st) (Inserting t) → ⊥
@@ -106,6 +113,16 @@ row_no_repair sh x (asked.Update name target text) k i h = h
 row_no_repair sh x (asked.Delete name target) k i h = h
 row_no_repair sh x st k i h = absurd i
 
+row_no_shrink : (sh : Shape) (x : Span) (st : Statement) (k : MoveWork) → IsRowChange st → WorkStands sh x (Some st) (Shrinking k) → ⊥
+row_no_shrink sh x (asked.Update name target text) k i h = h
+row_no_shrink sh x (asked.Delete name target) k i h = h
+row_no_shrink sh x st k i h = absurd i
+
+row_no_lower : (sh : Shape) (x : Span) (st : Statement) (k : StoppedWork) → IsRowChange st → WorkStands sh x (Some st) (Lowering k) → ⊥
+row_no_lower sh x (asked.Update name target text) k i h = h
+row_no_lower sh x (asked.Delete name target) k i h = h
+row_no_lower sh x st k i h = absurd i
+
 row_waits : (sh : Shape) (x : Span) (st : Statement) (p : Option TheScan) (d : Told) → IsRowChange st → work_in d ≡ None → IsReady sh x (Some st) (doing_at p d) → d ≡ told.Waiting
 row_waits sh x st p told.Waiting i e r = refl
 row_waits sh x st p (told.Inserting t) i e r = absurd (row_never sh x st t i r.1)
@@ -113,6 +130,8 @@ row_waits sh x st p (told.TakingBack t) i e r = absurd (row_no_back sh x st t i 
 row_waits sh x st p (told.OnRow w) i e r = absurd (let z : ◌≡◌ {A = Option ToldWork} (Some w) None = e in cc)
 row_waits sh x st p told.Scanning i e r = absurd (row_no_scan sh x st (scan_in p) i r.1)
 row_waits sh x st p (told.Repairing w) i e r = absurd (row_no_repair sh x st (repair_of w) i r.1)
+row_waits sh x st p (told.Shrinking w) i e r = absurd (row_no_shrink sh x st (shrink_of w) i r.1)
+row_waits sh x st p (told.Lowering w) i e r = absurd (row_no_lower sh x st (lower_of w) i r.1)
 
 work_is : (d : Told) (w : ToldWork) → work_in d ≡ Some w → d ≡ told.OnRow w
 work_is told.Waiting w e = absurd (let z : ◌≡◌ {A = Option ToldWork} None (Some w) = e in cc)
@@ -121,6 +140,8 @@ work_is (told.TakingBack t) w e = absurd (let z : ◌≡◌ {A = Option ToldWork
 work_is (told.OnRow v) w e = let z : ◌≡◌ {A = Option ToldWork} (Some v) (Some w) = e in let y : v ≡ w = cc in ap (λ (u : ToldWork). told.OnRow u) y
 work_is told.Scanning w e = absurd (let z : ◌≡◌ {A = Option ToldWork} None (Some w) = e in cc)
 work_is (told.Repairing v) w e = absurd (let z : ◌≡◌ {A = Option ToldWork} None (Some w) = e in cc)
+work_is (told.Shrinking v) w e = absurd (let z : ◌≡◌ {A = Option ToldWork} None (Some w) = e in cc)
+work_is (told.Lowering v) w e = absurd (let z : ◌≡◌ {A = Option ToldWork} None (Some w) = e in cc)
 
 row_stands : (sh : Shape) (x : Span) (st : Statement) (k : RowWork) → IsRowChange st → WorkStands sh x (Some st) (OnRow k) → RowStands sh x st k
 row_stands sh x (asked.Update name target text) k i h = h
@@ -148,6 +169,16 @@ back_no_repair sh x (Some asked.Rollback) q k r = r.1
 back_no_repair sh x None q k r = r.1
 back_no_repair sh x st q k r = absurd k
 
+back_no_shrink : (sh : Shape) (x : Span) (st : Option Statement) (q : MoveWork) → TakesBack st → IsReady sh x st (Working (Shrinking q)) → ⊥
+back_no_shrink sh x (Some asked.Rollback) q k r = r.1
+back_no_shrink sh x None q k r = r.1
+back_no_shrink sh x st q k r = absurd k
+
+back_no_lower : (sh : Shape) (x : Span) (st : Option Statement) (q : StoppedWork) → TakesBack st → IsReady sh x st (Working (Lowering q)) → ⊥
+back_no_lower sh x (Some asked.Rollback) q k r = r.1
+back_no_lower sh x None q k r = r.1
+back_no_lower sh x st q k r = absurd k
+
 back_waits : (sh : Shape) (x : Span) (st : Option Statement) (p : Option TheScan) (d : Told) → TakesBack st → backing_in d ≡ None → IsReady sh x st (doing_at p d) → d ≡ told.Waiting
 back_waits sh x st p told.Waiting k e r = refl
 back_waits sh x st p (told.Inserting t) k e r = absurd (back_never sh x st t k r)
@@ -155,6 +186,8 @@ back_waits sh x st p (told.TakingBack t) k e r = absurd (let z : ◌≡◌ {A = 
 back_waits sh x st p (told.OnRow w) k e r = absurd (back_no_row sh x st (work_of w) k r)
 back_waits sh x st p told.Scanning k e r = absurd (back_no_scan sh x st (scan_in p) k r)
 back_waits sh x st p (told.Repairing w) k e r = absurd (back_no_repair sh x st (repair_of w) k r)
+back_waits sh x st p (told.Shrinking w) k e r = absurd (back_no_shrink sh x st (shrink_of w) k r)
+back_waits sh x st p (told.Lowering w) k e r = absurd (back_no_lower sh x st (lower_of w) k r)
 
 backing_is : (d : Told) (t : ℕ) → backing_in d ≡ Some t → d ≡ told.TakingBack t
 backing_is told.Waiting t e = absurd (let z : ◌≡◌ {A = Option ℕ} None (Some t) = e in cc)
@@ -163,6 +196,8 @@ backing_is (told.TakingBack u) t e = let z : ◌≡◌ {A = Option ℕ} (Some u)
 backing_is (told.OnRow w) t e = absurd (let z : ◌≡◌ {A = Option ℕ} None (Some t) = e in cc)
 backing_is told.Scanning t e = absurd (let z : ◌≡◌ {A = Option ℕ} None (Some t) = e in cc)
 backing_is (told.Repairing w) t e = absurd (let z : ◌≡◌ {A = Option ℕ} None (Some t) = e in cc)
+backing_is (told.Shrinking w) t e = absurd (let z : ◌≡◌ {A = Option ℕ} None (Some t) = e in cc)
+backing_is (told.Lowering w) t e = absurd (let z : ◌≡◌ {A = Option ℕ} None (Some t) = e in cc)
 
 back_ready : (sh : Shape) (x : Span) (st : Option Statement) (t : ℕ) → TakesBack st → IsReady sh x st (Working (TakingBack t)) → BackStands x t
 back_ready sh x (Some asked.Rollback) t k r = r.1
@@ -177,6 +212,8 @@ scan_waits sh x name p (told.TakingBack t) e h r = absurd r.1
 scan_waits sh x name p (told.OnRow w) e h r = absurd r.1
 scan_waits sh x name p told.Scanning e h r = absurd (true≢false (sym (subst IsSome e h)))
 scan_waits sh x name p (told.Repairing w) e h r = absurd r.1
+scan_waits sh x name p (told.Shrinking w) e h r = absurd r.1
+scan_waits sh x name p (told.Lowering w) e h r = absurd r.1
 
 scan_open : (p : Option TheScan) (d : Told) → IsSome p → IsHeld p d → d ≡ told.Scanning
 scan_open p told.Waiting s h = absurd (true≢false (sym (subst IsSome h s)))
@@ -185,6 +222,8 @@ scan_open p (told.TakingBack t) s h = absurd (true≢false (sym (subst IsSome h 
 scan_open p (told.OnRow w) s h = absurd (true≢false (sym (subst IsSome h s)))
 scan_open p told.Scanning s h = refl
 scan_open p (told.Repairing w) s h = absurd (true≢false (sym (subst IsSome h s)))
+scan_open p (told.Shrinking w) s h = absurd (true≢false (sym (subst IsSome h s)))
+scan_open p (told.Lowering w) s h = absurd (true≢false (sym (subst IsSome h s)))
 
 -- a repair goes through its list
 repair_waits : (sh : Shape) (x : Span) (name : List ℕ) (p : Option TheScan) (d : Told) → repairing_in d ≡ None → IsReady sh x (Some (asked.Repair name)) (doing_at p d) → d ≡ told.Waiting
@@ -194,6 +233,8 @@ repair_waits sh x name p (told.TakingBack t) e r = absurd r.1
 repair_waits sh x name p (told.OnRow w) e r = absurd r.1
 repair_waits sh x name p told.Scanning e r = absurd r.1
 repair_waits sh x name p (told.Repairing w) e r = absurd (let z : ◌≡◌ {A = Option ToldRepair} (Some w) None = e in cc)
+repair_waits sh x name p (told.Shrinking w) e r = absurd r.1
+repair_waits sh x name p (told.Lowering w) e r = absurd r.1
 
 repairing_is : (d : Told) (w : ToldRepair) → repairing_in d ≡ Some w → d ≡ told.Repairing w
 repairing_is told.Waiting w e = absurd (let z : ◌≡◌ {A = Option ToldRepair} None (Some w) = e in cc)
@@ -202,6 +243,8 @@ repairing_is (told.TakingBack t) w e = absurd (let z : ◌≡◌ {A = Option Tol
 repairing_is (told.OnRow v) w e = absurd (let z : ◌≡◌ {A = Option ToldRepair} None (Some w) = e in cc)
 repairing_is told.Scanning w e = absurd (let z : ◌≡◌ {A = Option ToldRepair} None (Some w) = e in cc)
 repairing_is (told.Repairing v) w e = let z : ◌≡◌ {A = Option ToldRepair} (Some v) (Some w) = e in let y : v ≡ w = cc in ap (λ (u : ToldRepair). told.Repairing u) y
+repairing_is (told.Shrinking v) w e = absurd (let z : ◌≡◌ {A = Option ToldRepair} None (Some w) = e in cc)
+repairing_is (told.Lowering v) w e = absurd (let z : ◌≡◌ {A = Option ToldRepair} None (Some w) = e in cc)
 
 -- ---- the premises of the events
 
@@ -219,8 +262,8 @@ module _ {D : Type 0} (meaning : Meaning D) (x : Span) (who : ℕ) (own : Option
   pub once_starts : (st : Statement) → IsOnce st → IsTurnOf meaning x (Some st) who own labels p d s → IsStarting x
   once_starts st o t = starts (Some st) (once_waits s.shape x st p d o t.ready) t
 
-  pub once_fresh : (st : Statement) → IsOnce st → IsTurnOf meaning x (Some st) who own labels p d s → IsFresh x labels
-  once_fresh st o t = t.fresh (once_waits s.shape x st p d o t.ready)
+  pub once_waiting : (st : Statement) → IsOnce st → IsTurnOf meaning x (Some st) who own labels p d s → d ≡ told.Waiting
+  once_waiting st o t = once_waits s.shape x st p d o t.ready
 
   pub insert_starts : (name label text : List ℕ) → inserting_in d ≡ None → IsTurnOf meaning x (Some (asked.Insert name label text)) who own labels p d s → IsStarting x
   insert_starts name label text e t = starts (Some (asked.Insert name label text)) (insert_waits s.shape x name label text p d e t.ready) t
@@ -242,7 +285,7 @@ module _ {D : Type 0} (meaning : Meaning D) (x : Span) (who : ℕ) (own : Option
   target_is (Number n) h = refl
 
   pub row_meant : (st : Statement) (target : Target) → IsRowChange st → work_in d ≡ None → IsTurnOf meaning x (Some st) who own labels p d s → target_row x.scripts x.past target ≡ row_by labels target
-  row_meant st target i e t = target_is target (t.fresh (row_waits s.shape x st p d i e t.ready)).labelled
+  row_meant st target i e t = target_is target (t.labelled (row_waits s.shape x st p d i e t.ready))
 
   pub back_goes_on : (st : Option Statement) (t : ℕ) → TakesBack st → backing_in d ≡ Some t → IsTurnOf meaning x st who own labels p d s → BackStands x t
   back_goes_on st t k e r = back_ready s.shape x st t k (subst (λ (z : Told). IsReady s.shape x st (doing_at p z)) (backing_is d t e) r.ready)

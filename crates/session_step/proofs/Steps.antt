@@ -14,13 +14,14 @@ use Rattle.history_laws.specs.Telling.{start_now}
 use Rattle.session_model.specs.Done.{tidy_none}
 use Rattle.session_model.specs.Doings.{Doing, Waiting, ShrinksOn}
 use Rattle.session_model.specs.Sessions.{Session, WayFits, Fits, HasEnded}
-use Rattle.session_model.specs.Worlds.{IsWorld, Midway}
+use Rattle.session_model.specs.Worlds.{IsWorld, IsNext, Midway}
 use Rattle.session_model.specs.Laws.{started}
 use Rattle.session_model.proofs.Events.{statements_start, statements_go_on, sessions_end, ended_sessions}
 use Rattle.store_core.specs.Store.{Held}
 use Rattle.store_core.specs.declared.fault.StoreFault.{StoreFault}
 use Rattle.store_core.specs.declared.fault.StoreFault.TheVariants.{NoMemory}
 use Rattle.scan_table.specs.declared.scan.OpenScan.{OpenScan}
+use Rattle.scan_table.specs.Places.{place}
 use Rattle.session_core.specs.declared.session.Doing.{Doing as ToldDoing}
 use Rattle.session_core.specs.declared.session.Doing.TheVariants as told
 use Rattle.session_core.specs.declared.dues.Dues.{Dues}
@@ -30,20 +31,21 @@ use Rattle.session_step.specs.declared.session.Session.{Session as Told}
 use Rattle.session_step.specs.declared.session.Turn.{Turn}
 use Rattle.session_step.specs.declared.session.Turn.TheVariants as turns
 use Rattle.session_step.specs.Bindings.{row_of}
-use Rattle.session_step.specs.Stages.{Stage, IsHeld, IsMidway, IsSameBut, StandsAt, session_at}
+use Rattle.session_step.specs.Stages.{Stage, IsHeld, IsMidway, StandsAt, session_at}
 use Rattle.session_step.specs.Telling.{Begins, Ends, Grows, GoesOnWith, IsDone, IsStarted, begins_none, ends_none}
 use Rattle.session_step.specs.Events.{Opens, opens_new, opens_on}
 use Rattle.session_step.specs.Stepping.{HasRun, HasRunOn, HasPaidStep, Owes}
+use Rattle.session_step.proofs.Unmarked.{NoneGone, none_gone, others_same, session_same}
 
 -- ---- stages
 
 -- with this history and session
 abbrev pub begun : {D : Type 0} → Stage D → List HistoryItem → Told → Stage D
-begun a U u = record { store = a.store; history = U; scan = a.scan; labels = a.labels; dues = a.dues; session = u }
+begun a U u = record { store = a.store; history = U; scans = a.scans; shrinks = a.shrinks; labels = a.labels; dues = a.dues; session = u }
 
 -- with this store, and this to settle
 abbrev pub settled_to : {D : Type 0} → Stage D → Held D → Dues → Stage D
-settled_to a s d = record { store = s; history = a.history; scan = a.scan; labels = a.labels; dues = d; session = a.session }
+settled_to a s d = record { store = s; history = a.history; scans = a.scans; shrinks = a.shrinks; labels = a.labels; dues = d; session = a.session }
 
 -- ---- what a session is at
 
@@ -57,6 +59,8 @@ busy_at p (told.TakingBack t) ne e = absurd (cc e)
 busy_at p (told.OnRow k) ne e = absurd (cc e)
 busy_at p told.Scanning ne e = absurd (cc e)
 busy_at p (told.Repairing w) ne e = absurd (cc e)
+busy_at p (told.Shrinking w) ne e = absurd (cc e)
+busy_at p (told.Lowering w) ne e = absurd (cc e)
 
 is_waiting : (d : ToldDoing) → (d ≡ told.Waiting) ⊎ (d ≢ told.Waiting)
 is_waiting told.Waiting = inl refl
@@ -65,6 +69,8 @@ is_waiting (told.TakingBack t) = inr (λ e. absurd (cc e))
 is_waiting (told.OnRow k) = inr (λ e. absurd (cc e))
 is_waiting told.Scanning = inr (λ e. absurd (cc e))
 is_waiting (told.Repairing w) = inr (λ e. absurd (cc e))
+is_waiting (told.Shrinking w) = inr (λ e. absurd (cc e))
+is_waiting (told.Lowering w) = inr (λ e. absurd (cc e))
 
 -- ---- the sessions are as they were
 
@@ -77,10 +83,10 @@ world_as sh scripts R0 R T sessions next labels e h = record {
   labelled = h.labelled;
 }
 
-pub same_next : (scripts : List (List Statement)) (w : ℕ) (sessions next : ℕ → Session) (s : Session) → sessions w ≡ s → IsSameBut scripts w sessions next s → (v : ℕ) → IsSession scripts v → next v ≡ sessions v
-same_next scripts w sessions next s at is v session = elim (cases_Bool (eqb v w)) [
+pub same_next : (sh : Shape) (scripts : List (List Statement)) (w n : ℕ) (R : List Record) (sessions next : ℕ → Session) (s : Session) → NoneGone n R → sessions w ≡ s → IsNext sh scripts w n R sessions next s → (v : ℕ) → IsSession scripts v → next v ≡ sessions v
+same_next sh scripts w n R sessions next s g at is v session = elim (cases_Bool (eqb v w)) [
   | inl y ↦ subst (λ (z : ℕ). next z ≡ sessions z) (sym (eqb-true v w y)) (is.own ∙ sym at)
-  | inr y ↦ is.others v session (eqb-false v w y)
+  | inr y ↦ is.others v session (eqb-false v w y) ∙ session_same sh n R (sessions v) g
 ]
 
 pub not_more : (n : ℕ) (P : Type 0) → n ≡ suc n → P
@@ -97,11 +103,12 @@ module _ {D : Type 0} (meaning : Meaning D) (scripts : List (List Statement)) (R
     survives = λ since needed x. x;
     time = le_refl _;
     legal = h.world.legal;
-    world = λ next is. world_as a.store.shape scripts R0 R a.history sessions next (row_of a.labels) (same_next scripts w sessions next (session_at a.scan a.session) h.is is) h.world;
+    world = λ next is. world_as a.store.shape scripts R0 R a.history sessions next (row_of a.labels) (same_next a.store.shape scripts w (length R) R sessions next (session_at (place w a.scans) a.session) (none_gone R) h.is is) h.world;
     own = h.own;
     shaped = h.shaped;
     held = h.held;
     located = h.located;
+    marks = others_same w (length R) R a.scans a.scans (none_gone R) (λ v from ne. refl);
     others = λ v ne. refl;
     others_located = λ v d ne k. k;
     in_time = λ z. z;
@@ -111,7 +118,7 @@ module _ {D : Type 0} (meaning : Meaning D) (scripts : List (List Statement)) (R
   }
 
   ended_same : StandsAt meaning scripts R0 R sessions w a → HasEnded scripts R a.history w → HasPaidStep meaning scripts R0 R sessions w a a (Ok turns.Ended)
-  ended_same h ended = record { run = unchanged_run h; turn = (ended, record { history = refl; scan = refl; labels = refl; session = refl }, refl, refl); makes = (refl, refl) }
+  ended_same h ended = record { run = unchanged_run h; turn = (ended, record { history = refl; scans = refl; labels = refl; session = refl }, refl, refl); makes = (refl, refl) }
 
   failed_same : StandsAt meaning scripts R0 R sessions w a → HasPaidStep meaning scripts R0 R sessions w a a (Err NoMemory)
   failed_same h = record {
@@ -127,6 +134,7 @@ module _ {D : Type 0} (meaning : Meaning D) (scripts : List (List Statement)) (R
       shaped = h.shaped;
       held = tt;
       located = tt;
+      marks = others_same w (length R) R a.scans a.scans (none_gone R) (λ v from ne. refl);
       others = λ v ne. refl;
       others_located = λ v d ne k. k;
       in_time = λ z. z;
@@ -147,12 +155,12 @@ module _ {D : Type 0} (meaning : Meaning D) (scripts : List (List Statement)) (R
   told_at : StandsAt meaning scripts R0 R sessions w a → (sessions w).told ≡ a.session.told
   told_at h = ap (λ (z : Session). z.told) h.is
 
-  doing_is : StandsAt meaning scripts R0 R sessions w a → (sessions w).doing ≡ doing_at a.scan a.session.doing
+  doing_is : StandsAt meaning scripts R0 R sessions w a → (sessions w).doing ≡ doing_at (place w a.scans) a.session.doing
   doing_is h = ap (λ (z : Session). z.doing) h.is
 
   pub step_ended : (script : List Statement) (U : List HistoryItem) (u : Told) → U ≡ a.history → u ≡ a.session → script_of scripts w ≡ script → IsDone (length script) a.session → StandsAt meaning scripts R0 R sessions w a → HasPaidStep meaning scripts R0 R sessions w a (begun a U u) (Ok turns.Ended)
   step_ended script U u same stay e done h = as_begun U u (Ok turns.Ended) same stay (ended_same h
-      (sessions_end a.store.shape scripts R0 R a.history sessions (row_of a.labels) w h.session h.world (doing_is h ∙ waiting_at a.scan a.session.doing done.waits)
+      (sessions_end a.store.shape scripts R0 R a.history sessions (row_of a.labels) w h.session h.world (doing_is h ∙ waiting_at (place w a.scans) a.session.doing done.waits)
       (subst (λ (n : ℕ). length (script_of scripts w) ≤ n) (sym (told_at h)) (subst (λ (z : List Statement). length z ≤ a.session.told) (sym e) done.all_told)) (h.own ∙ done.none)))
 
   -- a session with more entries than statements was told its end
@@ -172,7 +180,7 @@ module _ {D : Type 0} (meaning : Meaning D) (scripts : List (List Statement)) (R
 
   not_ended_busy : a.session.doing ≢ told.Waiting → StandsAt meaning scripts R0 R sessions w a → HasEnded scripts R a.history w → ⊥
   not_ended_busy busy h ended =
-      let x = ended_sessions a.store.shape scripts R0 R a.history sessions (row_of a.labels) w h.session h.world ended in busy_at a.scan a.session.doing busy (sym (doing_is h) ∙ x.waits)
+      let x = ended_sessions a.store.shape scripts R0 R a.history sessions (row_of a.labels) w h.session h.world ended in busy_at (place w a.scans) a.session.doing busy (sym (doing_is h) ∙ x.waits)
 
   -- the midst of the run, after the start
   pub record InMidst (U : List HistoryItem) (u : Told) : Type 0 where
@@ -183,20 +191,20 @@ module _ {D : Type 0} (meaning : Meaning D) (scripts : List (List Statement)) (R
 
   -- nothing is under way while it waits
   idle_first : a.session.doing ≡ told.Waiting → StandsAt meaning scripts R0 R sessions w a → under_way a.history w ≡ None
-  idle_first waits h = subst (λ (d : Doing). WayFits a.store.shape scripts R a.history w (sessions w) d) (doing_is h ∙ waiting_at a.scan a.session.doing waits) (h.world.fit w h.session).way
+  idle_first waits h = subst (λ (d : Doing). WayFits a.store.shape scripts R a.history w (sessions w) d) (doing_is h ∙ waiting_at (place w a.scans) a.session.doing waits) (h.world.fit w h.session).way
 
   started_midst : (script : List Statement) (n : ℕ) (U : List HistoryItem) (u : Told) → n ≡ length R → script_of scripts w ≡ script → StandsAt meaning scripts R0 R sessions w a → IsStarted w (length script) n a.session u a.history U → InMidst U u
   started_midst script n U u l e h b = record {
     task = task_of (start_now R w) a.history;
     midway = record {
       stands = h.stands;
-      midway = subst (λ (Z : List HistoryItem). Midway a.store.shape scripts R0 R Z sessions (row_of a.labels) w (task_of (start_now R w) a.history) (session_at a.scan u)) (sym tells)
+      midway = subst (λ (Z : List HistoryItem). Midway a.store.shape scripts R0 R Z sessions (row_of a.labels) w (task_of (start_now R w) a.history) (session_at (place w a.scans) u)) (sym tells)
           (subst (Midway a.store.shape scripts R0 R (item.Started (start_now R w) ∷ a.history) sessions (row_of a.labels) w (task_of (start_now R w) a.history)) (sym is)
-          (statements_start a.store.shape scripts R0 R a.history sessions (row_of a.labels) w h.session (doing_is h ∙ waiting_at a.scan a.session.doing b.waits) more h.world));
-      unshrunk = h.unshrunk;
+          (statements_start a.store.shape scripts R0 R a.history sessions (row_of a.labels) w h.session (doing_is h ∙ waiting_at (place w a.scans) a.session.doing b.waits) more h.world));
+      shrinks = h.shrinks;
       own = h.own ∙ sym (ap (λ (z : Told). z.own) b.now);
       shaped = h.shaped;
-      held = subst (λ (z : Told). IsHeld a.scan z.doing) (sym b.now) (subst (IsHeld a.scan) b.waits h.held);
+      held = subst (λ (z : Told). IsHeld (place w a.scans) z.doing) (sym b.now) (subst (IsHeld (place w a.scans)) b.waits h.held);
       located = subst (λ (z : Told). KeepsDoing a.store.shape R z.own z.doing) (sym b.now) tt;
     };
     not_ended = not_ended_first script e b.more h;
@@ -212,22 +220,22 @@ module _ {D : Type 0} (meaning : Meaning D) (scripts : List (List Statement)) (R
       with : ℕ → ℕ → Session
       with m k = record { told = m; begins = k; doing = Waiting }
 
-      is : session_at a.scan u ≡ started R (sessions w)
-      is = ap (session_at a.scan) b.now ∙ (ap (λ (k : ℕ). with a.session.told k) l ∙ ap (λ (m : ℕ). with m (length R)) (sym (told_at h)))
+      is : session_at (place w a.scans) u ≡ started R (sessions w)
+      is = ap (session_at (place w a.scans)) b.now ∙ (ap (λ (k : ℕ). with a.session.told k) l ∙ ap (λ (m : ℕ). with m (length R)) (sym (told_at h)))
 
   busy_midst : (U : List HistoryItem) (u : Told) → StandsAt meaning scripts R0 R sessions w a → GoesOnWith a.session u a.history U → InMidst U u
   busy_midst U u h b =
-      let y = statements_go_on a.store.shape scripts R0 R a.history sessions (row_of a.labels) w h.session (λ e. busy_at a.scan a.session.doing b.busy (sym (doing_is h) ∙ e)) h.world in
+      let y = statements_go_on a.store.shape scripts R0 R a.history sessions (row_of a.labels) w h.session (λ e. busy_at (place w a.scans) a.session.doing b.busy (sym (doing_is h) ∙ e)) h.world in
       record {
         task = y.task;
         midway = record {
           stands = h.stands;
-          midway = subst (λ (Z : List HistoryItem). Midway a.store.shape scripts R0 R Z sessions (row_of a.labels) w y.task (session_at a.scan u)) (sym b.tells)
-              (subst (Midway a.store.shape scripts R0 R a.history sessions (row_of a.labels) w y.task) (h.is ∙ ap (session_at a.scan) (sym b.now)) y.midway);
-          unshrunk = h.unshrunk;
+          midway = subst (λ (Z : List HistoryItem). Midway a.store.shape scripts R0 R Z sessions (row_of a.labels) w y.task (session_at (place w a.scans) u)) (sym b.tells)
+              (subst (Midway a.store.shape scripts R0 R a.history sessions (row_of a.labels) w y.task) (h.is ∙ ap (session_at (place w a.scans)) (sym b.now)) y.midway);
+          shrinks = h.shrinks;
           own = h.own ∙ sym (ap (λ (z : Told). z.own) b.now);
           shaped = h.shaped;
-          held = subst (λ (z : Told). IsHeld a.scan z.doing) (sym b.now) h.held;
+          held = subst (λ (z : Told). IsHeld (place w a.scans) z.doing) (sym b.now) h.held;
           located = subst (λ (z : Told). KeepsDoing a.store.shape R z.own z.doing) (sym b.now) h.located;
         };
         not_ended = not_ended_busy b.busy h;
@@ -263,6 +271,7 @@ module _ {D : Type 0} (meaning : Meaning D) (scripts : List (List Statement)) (R
     shaped = h.shaped;
     held = h.held;
     located = h.located;
+    marks = h.marks;
     others = h.others;
     others_located = h.others_located;
     in_time = λ z. h.in_time (k z);

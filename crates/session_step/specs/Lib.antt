@@ -4,4 +4,3 @@ pub mod Turning
 pub mod Telling
 pub mod Events
 pub mod Stepping
-pub mod Laws

@@ -1,5 +1,5 @@
 -- One event of one session of a run.
-use Rattle.std.specs.Prelude.{◌≡◌, ◌≢◌, ◌⊎◌, ℕ, suc, ◌≤◌, true, List, [], is_some, Option, Result, Ok, Err, OnOk, OnErr, IfOk, IfErr}
+use Rattle.std.specs.Prelude.{◌≡◌, ◌≢◌, ◌⊎◌, ℕ, suc, ◌≤◌, true, List, [], length, is_some, Option, Result, Ok, Err, OnOk, OnErr, IfOk, IfErr}
 use Rattle.disk_model.specs.Crash.{Meaning}
 use Rattle.redo_model.specs.Records.{Record}
 use Rattle.session_laws.specs.Sessions.{own_of}
@@ -8,11 +8,12 @@ use Rattle.history_model.specs.History.{AreInTime}
 use Rattle.history_model.specs.Legal.{IsLegal}
 use Rattle.history_laws.specs.Events.{Goes}
 use Rattle.session_model.specs.Sessions.{Session, HasEnded}
-use Rattle.session_model.specs.Worlds.{IsWorld}
+use Rattle.session_model.specs.Worlds.{IsWorld, IsNext}
 use Rattle.store_core.specs.Store.{IsTrue}
 use Rattle.store_core.specs.Survives.{Survives}
 use Rattle.store_core.specs.Causes.{IsSoundFault}
 use Rattle.store_core.specs.declared.fault.StoreFault.{StoreFault}
+use Rattle.scan_table.specs.Places.{place}
 use Rattle.session_core.specs.declared.session.Doing.{Doing as ToldDoing}
 use Rattle.session_core.specs.Located.{KeepsDoing}
 use Rattle.session_core.specs.Scanned.{IsShaped}
@@ -23,14 +24,15 @@ use Rattle.session_core.specs.declared.dues.Dues.{Dues}
 use Rattle.session_step.specs.declared.session.Turn.{Turn}
 use Rattle.session_step.specs.declared.session.Turn.TheVariants as turns
 use Rattle.session_step.specs.Bindings.{row_of}
-use Rattle.session_step.specs.Stages.{Stage, session_at, IsHeld, IsSameBut}
+use Rattle.session_step.specs.Stages.{Stage, session_at, IsHeld, AreOthersMarked}
 use Rattle.session_step.specs.Telling.{IsEntryOf, OfNewest}
 use Rattle.session_step.specs.Events.{Closes, TurnMakes}
 
 -- ---- the records, the history and the sessions
 
 -- From the records R the event led to these, and with the history all is legal, also where it failed; where it didn't, the
--- sessions are as the history says. No other session's transaction changed, and a row that another session located stays so.
+-- sessions are as the history says. No other session's transaction changed, its scan is marked by what was released, and a row that it
+-- located stays so.
 pub record HasRun {D : Type 0} (meaning : Meaning D) (scripts : List (List Statement)) (R0 R : List Record) (sessions : ℕ → Session) (who : ℕ) (a b : Stage D) (result : Result (Unit {0}) StoreFault) : Type 0 where
   pub records : List Record
   pub stands : IsTrue meaning records b.store
@@ -38,11 +40,12 @@ pub record HasRun {D : Type 0} (meaning : Meaning D) (scripts : List (List State
   pub survives : (since : ℕ) (needed : ℕ → ℕ) → Survives meaning since needed R a.store → Survives meaning since needed records b.store
   pub time : meaning.clock a.store.disk ≤ meaning.clock b.store.disk
   pub legal : IsLegal a.store.shape scripts R0 records b.history
-  pub world : OnOk result ((next : ℕ → Session) → IsSameBut scripts who sessions next (session_at b.scan b.session) → IsWorld a.store.shape scripts R0 records b.history next (row_of b.labels))
+  pub world : OnOk result ((next : ℕ → Session) → IsNext a.store.shape scripts who (length R) records sessions next (session_at (place who b.scans) b.session) → IsWorld a.store.shape scripts R0 records b.history next (row_of b.labels))
   pub own : OnOk result (own_of records who ≡ b.session.own)
-  pub shaped : IsShaped a.store.shape b.scan
-  pub held : OnOk result (IsHeld b.scan b.session.doing)
+  pub shaped : IsShaped a.store.shape (place who b.scans)
+  pub held : OnOk result (IsHeld (place who b.scans) b.session.doing)
   pub located : OnOk result (KeepsDoing a.store.shape records b.session.own b.session.doing)
+  pub marks : AreOthersMarked who (length R) records a.scans b.scans
   pub others : (v : ℕ) → v ≢ who → own_of records v ≡ own_of R v
   pub others_located : (v : ℕ) (d : ToldDoing) → v ≢ who → KeepsDoing a.store.shape R (own_of R v) d → KeepsDoing a.store.shape records (own_of records v) d
   pub in_time : AreInTime (meaning.clock a.store.disk) a.history → AreInTime (meaning.clock b.store.disk) b.history
@@ -70,7 +73,7 @@ pub record Owes (d e : Dues) (own : Option ℕ) : Type 0 where
 -- all but the store and what is owed is as it was
 pub record IsUnchanged {D : Type 0} (a b : Stage D) : Type 0 where
   pub history : b.history ≡ a.history
-  pub scan : b.scan ≡ a.scan
+  pub scans : b.scans ≡ a.scans
   pub labels : b.labels ≡ a.labels
   pub session : b.session ≡ a.session
 

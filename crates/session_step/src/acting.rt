@@ -1,5 +1,5 @@
 // One event of what a session has next: of its statement, or of its end.
-ghost use Rattle.std.specs.Prelude.{◌≡◌, ◌≢◌, ◌≤◌, ℕ, List, Option, Some, None, length, slice_get};
+ghost use Rattle.std.specs.Prelude.{◌≡◌, ◌≤◌, ℕ, List, Option, Some, None, length, slice_get};
 ghost use Rattle.seg_words.specs.Types.{MOST_SESSIONS};
 ghost use Rattle.script_text.specs.declared.statement.Statement.{Statement as TheStatement};
 ghost use Rattle.script_text.specs.declared.statement.Statement.TheVariants as asked;
@@ -10,18 +10,20 @@ ghost use Rattle.scan_table.specs.declared.scan.OpenScan.{OpenScan as TheScan};
 ghost use Rattle.scan_table.specs.Places.{place};
 ghost use Rattle.session_core.specs.declared.session.Doing.{Doing as ToldDoing};
 ghost use Rattle.session_core.specs.Acting.{HasActed, HasCalled};
-ghost use Rattle.session_step.specs.Turning.{HasTurned, IsBuilt, IsTurnOf, backing_in, repairing_in};
+ghost use Rattle.session_step.specs.Turning.{HasTurned, IsBuilt, IsTurnOf, KnowsShrinks, backing_in, repairing_in};
 
 use crate::binding::row_by;
 use crate::labels::Labels;
 use crate::rows::{delete, insert, update};
+use crate::shrinking::shrink;
 use disk_model::Disk;
 use scan_table::Scans;
 use script_text::Statement;
 use seg_base::{Lsn, MOST_SESSIONS, Name, TxnId};
 use session_core::{
-    Acted, Changed, Doing, RepairWork, commit_own, fix, go_on_repairing, go_on_scanning,
-    make_table, roll_back, set_movement, start_repair, start_scan, take_back, tell_usage,
+    Acted, Changed, Doing, OpenShrink, RepairWork, commit_own, fix, go_on_repairing,
+    go_on_scanning, make_table, roll_back, set_movement, start_repair, start_scan, take_back,
+    tell_usage,
 };
 use std::alloc::Global;
 use store_core::{Store, StoreFault};
@@ -66,9 +68,8 @@ fn scan<D: Disk>(
     requires least { 1 ≤ who }
     requires most { who ≤ MOST_SESSIONS }
     requires unspent { store.old.fault ≡ None }
-    ensures turned { (x : Span) (labels : List (List ℕ × ℕ)) (d : ToldDoing) → IsTurnOf D.meaning x (Some (asked.Scan table.now)) who own labels (place who scans.old) d store.old → HasTurned D.meaning x (Some (asked.Scan table.now)) (place who scans.new) store.old store.new result }
+    ensures turned { (x : Span) (labels : List (List ℕ × ℕ)) (d : ToldDoing) → IsTurnOf D.meaning x (Some (asked.Scan table.now)) who own labels (place who scans.old) d store.old → HasTurned D.meaning x (Some (asked.Scan table.now)) who scans.old scans.new store.old store.new result }
     ensures called { HasCalled D.meaning store.old store.new result }
-    ensures others { (v : ℕ) → 1 ≤ v → v ≢ who → place v scans.new ≡ place v scans.old }
 {
     if scans.is_open(who) {
         return go_on_scanning(alloc, scans, store, who, own, table);
@@ -110,6 +111,7 @@ fn act<D: Disk>(
     alloc: Global,
     store: &mut Store<D>,
     scans: &mut Scans,
+    shrinks: &[OpenShrink],
     labels: &Labels,
     statement: &Statement,
     who: u8,
@@ -124,13 +126,12 @@ fn act<D: Disk>(
     requires unspent { store.old.fault ≡ None }
     requires spelled { IsSpelled statement.now }
     requires built { IsBuilt statement.now }
-    ensures turned { (x : Span) → begins ≡ length x.begun → IsTurnOf D.meaning x (Some statement.now) who own labels.now (place who scans.old) doing store.old → HasTurned D.meaning x (Some statement.now) (place who scans.new) store.old store.new result }
+    ensures turned { (x : Span) → begins ≡ length x.begun → KnowsShrinks x shrinks.now doing → IsTurnOf D.meaning x (Some statement.now) who own labels.now (place who scans.old) doing store.old → HasTurned D.meaning x (Some statement.now) who scans.old scans.new store.old store.new result }
     ensures called { HasCalled D.meaning store.old store.new result }
-    ensures others { (v : ℕ) → 1 ≤ v → v ≢ who → place v scans.new ≡ place v scans.old }
 {
     match statement {
         Statement::Table { name, pctfree } => make_table(alloc, store, own, name, *pctfree),
-        Statement::Movement { table, on } => set_movement(alloc, store, own, None, table, *on),
+        Statement::Movement { table, on } => set_movement(alloc, store, own, shrinks, table, *on),
         Statement::Insert { table, label, text } => {
             let _ = label;
             insert(alloc, store, who, own, &doing, table, text, hint, changed)
@@ -161,7 +162,10 @@ fn act<D: Disk>(
             value,
         } => fix(alloc, store, own, table, *block, *value),
         Statement::Repair { table } => repair(alloc, store, own, doing, begins, table),
-        Statement::Shrink { .. } | Statement::Checkpoint => Err(StoreFault::NoMemory),
+        Statement::Shrink { table, compact } => shrink(
+            alloc, store, scans, own, doing, shrinks, table, *compact, changed,
+        ),
+        Statement::Checkpoint => Err(StoreFault::NoMemory),
     }
 }
 
@@ -170,6 +174,7 @@ pub fn act_next<D: Disk>(
     alloc: Global,
     store: &mut Store<D>,
     scans: &mut Scans,
+    shrinks: &[OpenShrink],
     labels: &Labels,
     script: &[Statement],
     told: usize,
@@ -185,13 +190,12 @@ pub fn act_next<D: Disk>(
     requires unspent { store.old.fault ≡ None }
     requires spelled { (i : ℕ) (st : TheStatement) → slice_get script.now i ≡ Some st → IsSpelled st }
     requires built { (i : ℕ) (st : TheStatement) → slice_get script.now i ≡ Some st → IsBuilt st }
-    ensures turned { (x : Span) → begins ≡ length x.begun → (slice_get script.now told ≡ None → own ≡ None → ⊥) → IsTurnOf D.meaning x (slice_get script.now told) who own labels.now (place who scans.old) doing store.old → HasTurned D.meaning x (slice_get script.now told) (place who scans.new) store.old store.new result }
+    ensures turned { (x : Span) → begins ≡ length x.begun → KnowsShrinks x shrinks.now doing → (slice_get script.now told ≡ None → own ≡ None → ⊥) → IsTurnOf D.meaning x (slice_get script.now told) who own labels.now (place who scans.old) doing store.old → HasTurned D.meaning x (slice_get script.now told) who scans.old scans.new store.old store.new result }
     ensures called { HasCalled D.meaning store.old store.new result }
-    ensures others { (v : ℕ) → 1 ≤ v → v ≢ who → place v scans.new ≡ place v scans.old }
 {
     match script.get(told) {
         Some(statement) => act(
-            alloc, store, scans, labels, statement, who, own, doing, begins, hint, changed,
+            alloc, store, scans, shrinks, labels, statement, who, own, doing, begins, hint, changed,
         ),
         None => roll(alloc, store, own, &doing, changed),
     }

@@ -6,14 +6,13 @@ mod acting;
 mod binding;
 mod forms;
 mod labels;
-mod laws;
 mod rows;
 mod session;
+mod shrinking;
 mod stepping;
 mod telling;
 
 pub use forms::BUILT_FORMS;
 pub use labels::Labels;
-pub use laws::none_is_shrinking;
 pub use session::{Session, Turn};
 pub use stepping::step_session;

@@ -1,12 +1,11 @@
 // One event of a session.
-ghost use Rattle.std.specs.Prelude.{◌≡◌, ◌≢◌, ◌≤◌, ◌<◌, ◌^◌, ◌-◌, ℕ, List, Option, None, Some, length, slice_get, is_some, OnOk, OnErr, IfErr};
+ghost use Rattle.std.specs.Prelude.{◌≡◌, ◌≤◌, ◌<◌, ◌^◌, ◌-◌, ℕ, List, Option, None, Some, length, slice_get, is_some, OnOk, OnErr, IfErr};
 ghost use Rattle.seg_words.specs.Types.{MOST_SESSIONS};
 ghost use Rattle.redo_model.specs.Records.{Record};
 ghost use Rattle.script_text.specs.declared.statement.Statement.{Statement as TheStatement};
 ghost use Rattle.script_text.specs.Spelled.{IsSpelled};
 ghost use Rattle.history_model.specs.History.{Task, script_of};
 ghost use Rattle.session_model.specs.Sessions.{Session as TheSession};
-ghost use Rattle.scan_table.specs.Places.{place};
 ghost use Rattle.session_core.specs.Acting.{HasCalled};
 ghost use Rattle.session_step.specs.Turning.{IsBuilt};
 ghost use Rattle.store_core.specs.declared.fault.StoreFault.TheVariants.{NoMemory};
@@ -26,7 +25,7 @@ use history_model::HistoryItem;
 use scan_table::Scans;
 use script_text::Statement;
 use seg_base::{Lsn, MOST_SESSIONS, Newest};
-use session_core::{Acted, Changed, Doing, Dues};
+use session_core::{Acted, Changed, Doing, Dues, OpenShrink};
 use std::alloc::Global;
 use std::mem;
 use store_core::{Store, StoreFault};
@@ -114,6 +113,7 @@ fn run_statement<D: Disk>(
     store: &mut Store<D>,
     history: &mut Newest<HistoryItem>,
     scans: &mut Scans,
+    shrinks: &[OpenShrink],
     labels: &mut Labels,
     dues: &mut Dues,
     script: &[Statement],
@@ -128,10 +128,9 @@ fn run_statement<D: Disk>(
     requires built { (i : ℕ) (st : TheStatement) → slice_get script.now i ≡ Some st → IsBuilt st }
     requires short { length script.now < 2 ^ 32 - 1 }
     requires few { session.old.told ≤ length script.now }
-    ensures ran { (scripts : List (List TheStatement)) (R0 R : List Record) (sessions : ℕ → TheSession) (task : Task) → script_of scripts who ≡ script.now → IsMidway D.meaning scripts R0 R sessions who task (stage store.old history.old (place who scans.old) labels.old dues.old session.old) → HasRunOn D.meaning scripts R0 R sessions who (stage store.old history.old (place who scans.old) labels.old dues.old session.old) (stage store.new history.new (place who scans.new) labels.new dues.new session.new) result }
+    ensures ran { (scripts : List (List TheStatement)) (R0 R : List Record) (sessions : ℕ → TheSession) (task : Task) → script_of scripts who ≡ script.now → IsMidway D.meaning scripts R0 R sessions who task (stage store.old history.old scans.old shrinks.now labels.old dues.old session.old) → HasRunOn D.meaning scripts R0 R sessions who (stage store.old history.old scans.old shrinks.now labels.old dues.old session.old) (stage store.new history.new scans.new shrinks.now labels.new dues.new session.new) result }
     ensures owes { OnOk result (Owes dues.old dues.new session.new.own) }
     ensures called { HasCalled D.meaning store.old store.new result }
-    ensures others { (v : ℕ) → 1 ≤ v → v ≢ who → place v scans.new ≡ place v scans.old }
     ensures ends { Ends session.old.told history.old session.new.told history.new }
 {
     let mut changed = Changed::none();
@@ -140,6 +139,7 @@ fn run_statement<D: Disk>(
         alloc,
         store,
         scans,
+        shrinks,
         labels,
         script,
         session.told,
@@ -164,6 +164,7 @@ fn step_paid<D: Disk>(
     store: &mut Store<D>,
     history: &mut Newest<HistoryItem>,
     scans: &mut Scans,
+    shrinks: &[OpenShrink],
     labels: &mut Labels,
     dues: &mut Dues,
     script: &[Statement],
@@ -178,9 +179,8 @@ fn step_paid<D: Disk>(
     requires built { (i : ℕ) (st : TheStatement) → slice_get script.now i ≡ Some st → IsBuilt st }
     requires short { length script.now < 2 ^ 32 - 1 }
     requires few { session.old.told ≤ length script.now }
-    ensures stepped { (scripts : List (List TheStatement)) (R0 R : List Record) (sessions : ℕ → TheSession) → script_of scripts who ≡ script.now → StandsAt D.meaning scripts R0 R sessions who (stage store.old history.old (place who scans.old) labels.old dues.old session.old) → HasPaidStep D.meaning scripts R0 R sessions who (stage store.old history.old (place who scans.old) labels.old dues.old session.old) (stage store.new history.new (place who scans.new) labels.new dues.new session.new) result }
+    ensures stepped { (scripts : List (List TheStatement)) (R0 R : List Record) (sessions : ℕ → TheSession) → script_of scripts who ≡ script.now → StandsAt D.meaning scripts R0 R sessions who (stage store.old history.old scans.old shrinks.now labels.old dues.old session.old) → HasPaidStep D.meaning scripts R0 R sessions who (stage store.old history.old scans.old shrinks.now labels.old dues.old session.old) (stage store.new history.new scans.new shrinks.now labels.new dues.new session.new) result }
     ensures called { HasCalled D.meaning store.old store.new result }
-    ensures others { (v : ℕ) → 1 ≤ v → v ≢ who → place v scans.new ≡ place v scans.old }
     ensures grows { Grows session.old session.new history.old history.new }
 {
     let records = Lsn(store.log_len());
@@ -188,7 +188,7 @@ fn step_paid<D: Disk>(
         Err(_) => Err(StoreFault::NoMemory),
         Ok(false) => Ok(Turn::Ended),
         Ok(true) => match run_statement(
-            alloc, store, history, scans, labels, dues, script, who, session, hint,
+            alloc, store, history, scans, shrinks, labels, dues, script, who, session, hint,
         ) {
             Ok(()) => Ok(Turn::Made),
             Err(fault) => Err(fault),
@@ -196,14 +196,16 @@ fn step_paid<D: Disk>(
     }
 }
 
-/// One event of a session of a run. The first of the blocks that it owes and that calls for it is settled, and the event is over;
-/// else its next statement starts or goes on, and where it is over its entry is told and its label stands for its row. `Ended`
-/// where nothing is left of it. After a fault the session is of no use any more.
+/// One event of a session of a run; `shrinks` are the shrinks of the other sessions that are under way. The first of the blocks that
+/// it owes and that calls for it is settled, and the event is over; else its next statement starts or goes on, and where it is over
+/// its entry is told and its label stands for its row. `Ended` where nothing is left of it. After a fault the session is of no use
+/// any more.
 pub fn step_session<D: Disk>(
     alloc: Global,
     store: &mut Store<D>,
     history: &mut Newest<HistoryItem>,
     scans: &mut Scans,
+    shrinks: &[OpenShrink],
     labels: &mut Labels,
     dues: &mut Dues,
     script: &[Statement],
@@ -217,9 +219,8 @@ pub fn step_session<D: Disk>(
     requires spelled { (i : ℕ) (st : TheStatement) → slice_get script.now i ≡ Some st → IsSpelled st }
     requires built { (i : ℕ) (st : TheStatement) → slice_get script.now i ≡ Some st → IsBuilt st }
     requires short { length script.now < 2 ^ 32 - 1 }
-    ensures stepped { (scripts : List (List TheStatement)) (R0 R : List Record) (sessions : ℕ → TheSession) → script_of scripts who ≡ script.now → StandsAt D.meaning scripts R0 R sessions who (stage store.old history.old (place who scans.old) labels.old dues.old session.old) → HasStepped D.meaning scripts R0 R sessions who (stage store.old history.old (place who scans.old) labels.old dues.old session.old) (stage store.new history.new (place who scans.new) labels.new dues.new session.new) result }
+    ensures stepped { (scripts : List (List TheStatement)) (R0 R : List Record) (sessions : ℕ → TheSession) → script_of scripts who ≡ script.now → StandsAt D.meaning scripts R0 R sessions who (stage store.old history.old scans.old shrinks.now labels.old dues.old session.old) → HasStepped D.meaning scripts R0 R sessions who (stage store.old history.old scans.old shrinks.now labels.old dues.old session.old) (stage store.new history.new scans.new shrinks.now labels.new dues.new session.new) result }
     ensures called { HasCalled D.meaning store.old store.new result }
-    ensures others { (v : ℕ) → 1 ≤ v → v ≢ who → place v scans.new ≡ place v scans.old }
     ensures grows { Grows session.old session.new history.old history.new }
 {
     match dues.settle(alloc, store) {
@@ -230,7 +231,7 @@ pub fn step_session<D: Disk>(
                 return Ok(Turn::Ended);
             }
             step_paid(
-                alloc, store, history, scans, labels, dues, script, who, session, hint,
+                alloc, store, history, scans, shrinks, labels, dues, script, who, session, hint,
             )
         }
     }

@@ -5,6 +5,8 @@ pub mod Ordered
 pub mod Serving
 pub mod Runnable
 pub mod Seating
+pub mod Shrinking
+pub mod Marking
 pub mod Beginning
 pub mod Turning
 pub mod Circling

@@ -7,7 +7,7 @@ use Rattle.script_text.specs.declared.statement.Statement.{Statement}
 use Rattle.script_text.specs.declared.statement.Statement.TheVariants as asked
 use Rattle.script_text.specs.declared.form.Forms.{Forms}
 use Rattle.session_step.specs.declared.forms.TheConstants.{BUILT_FORMS}
-use Rattle.script_text.specs.Forms.{is_open}
+use Rattle.script_text.specs.Forms.{is_open, is_ready}
 use Rattle.script_text.specs.Script.{Script}
 use Rattle.script_text.specs.Spelled.{IsStatement, IsScript, form_of, most_sessions}
 use Rattle.history_model.specs.History.{script_of}
@@ -23,25 +23,28 @@ few_by : (b : Bool) (n : ℕ) → n ≤ cond b MOST_SESSIONS 1 → n ≤ MOST_SE
 few_by true n h = h
 few_by false n h = omega (arith, h)
 
-open_built : (st : Statement) → is_open BUILT_FORMS (form_of st) ≡ true → IsBuilt st
-open_built (asked.Table name pctfree) e = tt
-open_built (asked.Movement table on) e = tt
-open_built (asked.Insert table label text) e = tt
-open_built (asked.Update table target text) e = tt
-open_built (asked.Delete table target) e = tt
-open_built asked.Commit e = tt
-open_built asked.Rollback e = tt
-open_built (asked.Scan table) e = tt
-open_built (asked.Shrink table compact) e = cc e
-open_built (asked.Usage table) e = tt
-open_built (asked.Fix table block value) e = tt
-open_built (asked.Repair table) e = tt
-open_built asked.Checkpoint e = cc e
+open_built : (st : Statement) → is_open BUILT_FORMS (form_of st) ≡ true → is_ready BUILT_FORMS st ≡ true → IsBuilt st
+open_built (asked.Table name pctfree) e r = tt
+open_built (asked.Movement table on) e r = tt
+open_built (asked.Insert table label text) e r = tt
+open_built (asked.Update table target text) e r = tt
+open_built (asked.Delete table target) e r = tt
+open_built asked.Commit e r = tt
+open_built asked.Rollback e r = tt
+open_built (asked.Scan table) e r = tt
+open_built (asked.Shrink table compact) e r = tt
+open_built (asked.Usage table) e r = tt
+open_built (asked.Fix table block value) e r = tt
+open_built (asked.Repair table) e r = tt
+open_built asked.Checkpoint e r = cc e
+
+open_ready : (st : Statement) → IsStatement BUILT_FORMS st → IsBuilt st
+open_ready st h = open_built st h.built h.ready
 
 script_runs : (script : List Statement) → AllByRecursion (IsStatement BUILT_FORMS) script → AreRunnable script
 script_runs script h = record {
   spelled = λ i st e. (all_at (IsStatement BUILT_FORMS) script i st h e).spelled;
-  built = λ i st e. open_built st (all_at (IsStatement BUILT_FORMS) script i st h e).built;
+  built = λ i st e. open_ready st (all_at (IsStatement BUILT_FORMS) script i st h e);
 }
 
 pub scripts_run : (script : Script) → IsScript BUILT_FORMS script → AreScripts script.sessions

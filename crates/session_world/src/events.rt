@@ -1,10 +1,9 @@
 // A run: any of its sessions makes an event.
-ghost use Rattle.std.specs.Prelude.{◌≡◌, ◌≢◌, ◌≤◌, ◌<◌, ◌^◌, ◌-◌, ℕ, List, length, Option, None, IfOk};
+ghost use Rattle.std.specs.Prelude.{◌≡◌, ◌≤◌, ◌<◌, ◌^◌, ◌-◌, ℕ, List, length, Option, None, IfOk};
 ghost use Rattle.seg_words.specs.Types.{MOST_SESSIONS};
 ghost use Rattle.redo_model.specs.Records.{Record};
 ghost use Rattle.script_text.specs.declared.statement.Statement.{Statement as TheStatement};
 ghost use Rattle.store_core.specs.Store.{Held};
-ghost use Rattle.scan_table.specs.Places.{place};
 ghost use Rattle.session_core.specs.Acting.{HasCalled};
 ghost use Rattle.history_model.specs.History.{IsSession, script_of};
 ghost use Rattle.session_model.specs.Sessions.{Session as TheSession};
@@ -12,18 +11,20 @@ ghost use Rattle.session_step.specs.Stages.{StandsAt, stage};
 ghost use Rattle.session_step.specs.Telling.{Grows};
 ghost use Rattle.session_step.specs.Stepping.{HasStepped};
 ghost use Rattle.session_world.specs.Scripts.{AreRunnable, AreScripts};
+ghost use Rattle.session_world.specs.Seats.{AreShrinks};
 ghost use Rattle.session_world.specs.Calling.{HasServed};
 ghost use Rattle.session_world.specs.Between.{IsFresh, IsRunAt, IsSoFar, TakesTurn};
 ghost use Rattle.session_world.specs.Moving.{HasMoved};
 
 use crate::fault::RunFault;
 use crate::lines::hand_out;
-use crate::seats::{Seat, fresh_seats};
+use crate::seats::{Seat, fresh_seats, open_shrinks};
 use disk_model::Disk;
 use history_model::HistoryItem;
 use scan_table::Scans;
 use script_text::Statement;
 use seg_base::{Newest, NoMemory, Sequence};
+use session_core::OpenShrink;
 use session_step::{Labels, Turn, step_session};
 use std::alloc::Global;
 use store_core::{Store, StoreFault};
@@ -61,6 +62,7 @@ fn step_in<D: Disk>(
     store: &mut Store<D>,
     history: &mut Newest<HistoryItem>,
     scans: &mut Scans,
+    shrinks: &[OpenShrink],
     labels: &mut Labels,
     seat: &mut Seat,
     script: &[Statement],
@@ -72,9 +74,8 @@ fn step_in<D: Disk>(
     requires unspent { store.old.fault ≡ None }
     requires runnable { AreRunnable script.now }
     requires short { length script.now < 2 ^ 32 - 1 }
-    ensures stepped { (scripts : List (List TheStatement)) (R0 R : List Record) (sessions : ℕ → TheSession) → script_of scripts who ≡ script.now → StandsAt D.meaning scripts R0 R sessions who (stage store.old history.old (place who scans.old) labels.old seat.old.dues seat.old.session) → HasStepped D.meaning scripts R0 R sessions who (stage store.old history.old (place who scans.old) labels.old seat.old.dues seat.old.session) (stage store.new history.new (place who scans.new) labels.new seat.new.dues seat.new.session) result }
+    ensures stepped { (scripts : List (List TheStatement)) (R0 R : List Record) (sessions : ℕ → TheSession) → script_of scripts who ≡ script.now → StandsAt D.meaning scripts R0 R sessions who (stage store.old history.old scans.old shrinks.now labels.old seat.old.dues seat.old.session) → HasStepped D.meaning scripts R0 R sessions who (stage store.old history.old scans.old shrinks.now labels.old seat.old.dues seat.old.session) (stage store.new history.new scans.new shrinks.now labels.new seat.new.dues seat.new.session) result }
     ensures called { HasCalled D.meaning store.old store.new result }
-    ensures others { (v : ℕ) → 1 ≤ v → v ≢ who → place v scans.new ≡ place v scans.old }
     ensures grows { Grows seat.old.session seat.new.session history.old history.new }
 {
     step_session(
@@ -82,6 +83,7 @@ fn step_in<D: Disk>(
         store,
         history,
         scans,
+        shrinks,
         labels,
         &mut seat.dues,
         script,
@@ -91,8 +93,42 @@ fn step_in<D: Disk>(
     )
 }
 
-/// One event of a session that has a seat.
+/// One event of a session that has a seat, where the others shrink these tables.
 fn step_seat<D: Disk>(
+    alloc: Global,
+    store: &mut Store<D>,
+    run: &mut Run,
+    shrinks: &[OpenShrink],
+    script: &[Statement],
+    who: u8,
+    hint: Option<u32>,
+) -> Result<Turn, StoreFault>
+    requires least { 1 ≤ who }
+    requires most { who ≤ MOST_SESSIONS }
+    requires seated { who ≤ length run.old.seats.items }
+    requires told { AreShrinks run.old.seats.items who (length run.old.seats.items) shrinks.now }
+    requires unspent { store.old.fault ≡ None }
+    requires runnable { AreRunnable script.now }
+    requires short { length script.now < 2 ^ 32 - 1 }
+    ensures moved { (scripts : List (List TheStatement)) (R0 R : List Record) → script_of scripts who ≡ script.now → IsSession scripts who → IsRunAt D.meaning scripts R0 R store.old run.old → HasMoved D.meaning scripts R0 R who store.old store.new run.old run.new result }
+    ensures called { HasCalled D.meaning store.old store.new result }
+{
+    step_in(
+        alloc,
+        store,
+        &mut run.history,
+        &mut run.scans,
+        shrinks,
+        &mut run.labels,
+        &mut run.seats[usize::from(who) - 1],
+        script,
+        who,
+        hint,
+    )
+}
+
+/// One event of a session that has a seat.
+fn step_among<D: Disk>(
     alloc: Global,
     store: &mut Store<D>,
     run: &mut Run,
@@ -109,17 +145,10 @@ fn step_seat<D: Disk>(
     ensures moved { (scripts : List (List TheStatement)) (R0 R : List Record) → script_of scripts who ≡ script.now → IsSession scripts who → IsRunAt D.meaning scripts R0 R store.old run.old → HasMoved D.meaning scripts R0 R who store.old store.new run.old run.new result }
     ensures called { HasCalled D.meaning store.old store.new result }
 {
-    step_in(
-        alloc,
-        store,
-        &mut run.history,
-        &mut run.scans,
-        &mut run.labels,
-        &mut run.seats[usize::from(who) - 1],
-        script,
-        who,
-        hint,
-    )
+    match open_shrinks(alloc, run.seats.as_slice(), who) {
+        Ok(shrinks) => step_seat(alloc, store, run, shrinks.as_slice(), script, who, hint),
+        Err(_) => Err(StoreFault::NoMemory),
+    }
 }
 
 /// One event of a session that has a seat and a script.
@@ -143,7 +172,7 @@ fn step_script<D: Disk>(
     if script.len() >= u32::MAX as usize {
         return Err(StoreFault::NoMemory);
     }
-    step_seat(alloc, store, run, script, who, hint)
+    step_among(alloc, store, run, script, who, hint)
 }
 
 /// One event of a session, or none where the scripts have no such session.

@@ -28,7 +28,7 @@ use store_core::{Store, StoreFault};
 use text_port::Sink;
 
 /// The turns of the schedule, and then rounds of all sessions, until each of them has ended.
-fn run_sessions<D: Disk, K: Sink>(
+pub fn run_sessions<D: Disk, K: Sink>(
     alloc: Global,
     store: &mut Store<D>,
     run: &mut Run,

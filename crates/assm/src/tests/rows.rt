@@ -56,7 +56,7 @@ fn run_over<R: Threads + Wait + Sync + Abort>(
 }
 
 /// A run over a store of 64 blocks with so many undo blocks ends with these lines.
-fn ends<R: Threads + Wait + Sync + Abort>(
+pub fn ends<R: Threads + Wait + Sync + Abort>(
     rt: &R,
     alloc: Global,
     undo: &str,

@@ -1,5 +1,4 @@
 use Rattle.std.specs.Prelude.{length}
-use Rattle.scan_table.specs.Places.{place}
 use Rattle.session_step.specs.Stages.{stage}
 use Rattle.session_step.specs.Telling.{ends_none}
 use Rattle.session_step.proofs.Steps.{begun_midst, grows_of, step_ended, step_failed, step_ran, step_ran_not}
@@ -9,8 +8,8 @@ pub returns-in-Ok-clause-stepped : goal.returns-in-Ok-clause-stepped
 returns-in-Ok-clause-stepped g c = λ scripts R0 R sessions e h.
     let M = g.D.Disk.meaning in
     let w = c.args.who in
-    let a = stage c.args.store.now c.args.history.now (place w c.args.scans.now) c.args.labels.now c.args.dues.now c.args.session.now in
-    let b = stage c.run_statement.new.store c.run_statement.new.history (place w c.run_statement.new.scans) c.run_statement.new.labels c.run_statement.new.dues c.run_statement.new.session in
+    let a = stage c.args.store.now c.args.history.now c.args.scans.now c.args.shrinks.now c.args.labels.now c.args.dues.now c.args.session.now in
+    let b = stage c.run_statement.new.store c.run_statement.new.history c.run_statement.new.scans c.args.shrinks.now c.run_statement.new.labels c.run_statement.new.dues c.run_statement.new.session in
     let n = c.log_len.result in
     let k = length c.args.script.now in
     let on = c.in-Ok-true.ensures.on c.in-Ok-true.field-0-test in
@@ -23,8 +22,8 @@ pub returns-in-Err-run_statement-clause-stepped : goal.returns-in-Err-run_statem
 returns-in-Err-run_statement-clause-stepped g c = λ scripts R0 R sessions e h.
     let M = g.D.Disk.meaning in
     let w = c.args.who in
-    let a = stage c.args.store.now c.args.history.now (place w c.args.scans.now) c.args.labels.now c.args.dues.now c.args.session.now in
-    let b = stage c.run_statement.new.store c.run_statement.new.history (place w c.run_statement.new.scans) c.run_statement.new.labels c.run_statement.new.dues c.run_statement.new.session in
+    let a = stage c.args.store.now c.args.history.now c.args.scans.now c.args.shrinks.now c.args.labels.now c.args.dues.now c.args.session.now in
+    let b = stage c.run_statement.new.store c.run_statement.new.history c.run_statement.new.scans c.args.shrinks.now c.run_statement.new.labels c.run_statement.new.dues c.run_statement.new.session in
     let n = c.log_len.result in
     let k = length c.args.script.now in
     let on = c.in-Ok-true.ensures.on c.in-Ok-true.field-0-test in
@@ -37,7 +36,7 @@ pub returns-in-Ok-false-clause-stepped : goal.returns-in-Ok-false-clause-stepped
 returns-in-Ok-false-clause-stepped g c = λ scripts R0 R sessions e h.
     let M = g.D.Disk.meaning in
     let w = c.args.who in
-    let a = stage c.args.store.now c.args.history.now (place w c.args.scans.now) c.args.labels.now c.args.dues.now c.args.session.now in
+    let a = stage c.args.store.now c.args.history.now c.args.scans.now c.args.shrinks.now c.args.labels.now c.args.dues.now c.args.session.now in
     let same = c.in-Ok-false.ensures.same c.in-Ok-false.field-0-test in
     step_ended M scripts R0 R sessions w a c.args.script.now c.begin.new.history c.begin.new.session same.1 same.0 e (c.in-Ok-false.ensures.done c.in-Ok-false.field-0-test) h
 
@@ -45,7 +44,7 @@ pub returns-in-Err-clause-stepped : goal.returns-in-Err-clause-stepped
 returns-in-Err-clause-stepped g c = λ scripts R0 R sessions e h.
     let M = g.D.Disk.meaning in
     let w = c.args.who in
-    let a = stage c.args.store.now c.args.history.now (place w c.args.scans.now) c.args.labels.now c.args.dues.now c.args.session.now in
+    let a = stage c.args.store.now c.args.history.now c.args.scans.now c.args.shrinks.now c.args.labels.now c.args.dues.now c.args.session.now in
     step_failed M scripts R0 R sessions w a c.begin.new.history c.begin.new.session c.in-Err.ensures.failed.1 c.in-Err.ensures.failed.0 h
 
 pub returns-in-Ok-clause-grows : goal.returns-in-Ok-clause-grows

@@ -1,6 +1,5 @@
 use Rattle.std.proofs.Common.{subst}
 use Rattle.session_core.specs.Owing.{HasSettledFirst}
-use Rattle.scan_table.specs.Places.{place}
 use Rattle.session_step.specs.Stages.{stage}
 use Rattle.session_step.specs.declared.session.Turn.TheVariants as turns
 use Rattle.std.specs.Prelude.{Bool, Ok}
@@ -10,19 +9,19 @@ use Rattle.session_step.proofs.stepping.step_session.Goals as goal
 
 pub returns-in-Err-clause-stepped : goal.returns-in-Err-clause-stepped
 returns-in-Err-clause-stepped g c = λ scripts R0 R sessions e h.
-    let a = stage c.args.store.now c.args.history.now (place c.args.who c.args.scans.now) c.args.labels.now c.args.dues.now c.args.session.now in
+    let a = stage c.args.store.now c.args.history.now c.args.scans.now c.args.shrinks.now c.args.labels.now c.args.dues.now c.args.session.now in
     step_unpaid g.D.Disk.meaning scripts R0 R sessions c.args.who a c.settle.new.store c.settle.new.self c.in-Err.fault (c.in-Err.ensures.settled R h.stands) c.in-Err.ensures.called.loan.shape h
 
 pub returns-in-Ok-true-clause-stepped : goal.returns-in-Ok-true-clause-stepped
 returns-in-Ok-true-clause-stepped g c = λ scripts R0 R sessions e h.
-    let a = stage c.args.store.now c.args.history.now (place c.args.who c.args.scans.now) c.args.labels.now c.args.dues.now c.args.session.now in
+    let a = stage c.args.store.now c.args.history.now c.args.scans.now c.args.shrinks.now c.args.labels.now c.args.dues.now c.args.session.now in
     step_paid_one g.D.Disk.meaning scripts R0 R sessions c.args.who a c.settle.new.store c.settle.new.self (subst (λ (b : Bool). HasSettledFirst g.D.Disk.meaning R a.dues.owed c.settle.new.self.owed a.store c.settle.new.store (Ok b)) c.in-Ok-true.field-0-test (c.in-Ok-true.ensures.settled R h.stands)) c.in-Ok-true.ensures.noted c.in-Ok-true.ensures.called.loan.shape h
 
 pub returns-then-session-script-clause-stepped : goal.returns-then-session-script-clause-stepped
 returns-then-session-script-clause-stepped g c = λ scripts R0 R sessions e h.
     let M = g.D.Disk.meaning in
     let w = c.args.who in
-    let a = stage c.args.store.now c.args.history.now (place w c.args.scans.now) c.args.labels.now c.args.dues.now c.args.session.now in
+    let a = stage c.args.store.now c.args.history.now c.args.scans.now c.args.shrinks.now c.args.labels.now c.args.dues.now c.args.session.now in
     let s = c.settle.new.store in
     let d = c.settle.new.self in
     let t = subst (λ (b : Bool). HasSettledFirst M R a.dues.owed d.owed a.store s (Ok b)) c.in-Ok-false.field-0-test (c.in-Ok-false.ensures.settled R h.stands) in
@@ -34,12 +33,12 @@ pub returns-else-session-script-clause-stepped : goal.returns-else-session-scrip
 returns-else-session-script-clause-stepped g c = λ scripts R0 R sessions e h.
     let M = g.D.Disk.meaning in
     let w = c.args.who in
-    let a = stage c.args.store.now c.args.history.now (place w c.args.scans.now) c.args.labels.now c.args.dues.now c.args.session.now in
+    let a = stage c.args.store.now c.args.history.now c.args.scans.now c.args.shrinks.now c.args.labels.now c.args.dues.now c.args.session.now in
     let s = c.settle.new.store in
     let d = c.settle.new.self in
     let t = subst (λ (b : Bool). HasSettledFirst M R a.dues.owed d.owed a.store s (Ok b)) c.in-Ok-false.field-0-test (c.in-Ok-false.ensures.settled R h.stands) in
     let shape = c.in-Ok-false.ensures.called.loan.shape in
-    let b = stage c.step_paid.new.store c.step_paid.new.history (place w c.step_paid.new.scans) c.step_paid.new.labels c.step_paid.new.dues c.step_paid.new.session in
+    let b = stage c.step_paid.new.store c.step_paid.new.history c.step_paid.new.scans c.args.shrinks.now c.step_paid.new.labels c.step_paid.new.dues c.step_paid.new.session in
     step_after M scripts R0 R sessions w a s d b c.step_paid.result t c.in-Ok-false.ensures.noted shape
     (c.step_paid.ensures.stepped scripts R0 R sessions e (paid_stands M scripts R0 R sessions w a s d t shape h))
 

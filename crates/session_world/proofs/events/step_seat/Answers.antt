@@ -12,6 +12,6 @@ returns-clause-moved g c = λ scripts R0 R e session at.
     let seat = c.index_mut.result.now in
     let after = c.step_in.new.seat in
     let run : Run = record { seats = with_item was.seats (c.from.result - 1) after; scans = c.step_in.new.scans; labels = c.step_in.new.labels; history = c.step_in.new.history } in
-    let moves = seat_moves c.args.who c.from.result was run seat after c.from.ensures c.requires.least c.requires.seated c.index_mut.ensures.value refl c.step_in.ensures.others in
-    moved M scripts R0 R c.args.who c.args.store.now c.step_in.new.store was run seat.session after.session seat.dues after.dues session at moves c.step_in.ensures.called.loan.shape c.step_in.result c.step_in.ensures.grows
-    (c.step_in.ensures.stepped scripts R0 R (seen_in was.seats.items was.scans) e (stands_at M scripts R0 R c.args.who c.args.store.now was seat.session seat.dues session moves.before at))
+    let moves = seat_moves c.args.who c.from.result was run seat after c.from.ensures c.requires.least c.requires.seated c.index_mut.ensures.value refl in
+    moved M scripts R0 R c.args.who c.args.store.now c.step_in.new.store was run seat.session after.session c.args.shrinks.now seat.dues after.dues session at moves c.step_in.ensures.called.loan.shape c.step_in.result c.step_in.ensures.grows
+    (c.step_in.ensures.stepped scripts R0 R (seen_in was.seats.items was.scans) e (stands_at M scripts R0 R c.args.who c.args.store.now was c.args.shrinks.now seat.session seat.dues session c.requires.told moves.before at))

@@ -123,7 +123,7 @@ fn words_and_scripts_are_refused(rt: HostRuntime) -> Result<(), Fail> {
         (&RUN, b"session 1\ntable t 010\n", bad(2, Why::BadNumber)),
         (
             &RUN,
-            b"session 1\ncommit\nshrink t\n",
+            b"session 1\ncommit\ncheckpoint\n",
             bad(3, Why::NotAStatement),
         ),
     ];

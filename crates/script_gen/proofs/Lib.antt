@@ -1,0 +1,3 @@
+pub mod InGrammar
+pub mod Counting
+pub mod Texts

@@ -4,7 +4,7 @@ ghost use Rattle.seg_words.specs.Types.{TXN_TABLE_BLOCK};
 ghost use Rattle.disk_model.specs.Types.{Causes, Untouched};
 ghost use Rattle.page_store.specs.Types.{IsStore};
 ghost use Rattle.page_set.specs.declared.page.Page.{Page};
-ghost use Rattle.buffer_pool.specs.Frames.{dirty_count, frame_at, has_page as is_page, in_file, page_over, IsSpelled, Keeps, KeepsFrames, SameDirty, Shows};
+ghost use Rattle.buffer_pool.specs.Frames.{dirty_count, frame_at, has_page as is_page, in_file, page_over, HasOnlyPages, IsSpelled, Keeps, KeepsFrames, SameDirty, Shows};
 ghost use Rattle.buffer_pool.specs.Looks.{Looks};
 ghost use Rattle.buffer_pool.specs.Recent.{behind, Gives, Moves};
 ghost use Rattle.buffer_pool.specs.Reading.{IsFetching, IsReading, IsSpelledIn};
@@ -89,11 +89,13 @@ impl BufferPool {
         self.store.shape()
     }
 
-    /// How many pages are dirty: at most one more than there are frames beside that of the transaction table.
+    /// How many pages are dirty: at most one more than there are frames beside that of the transaction table. No block has a frame
+    /// that has no page.
     pub fn dirty(&self) -> u16
         ensures value { result ≡ self.now.dirty }
         ensures count { result ≡ dirty_count self.now.held }
         ensures most { result ≤ FRAMES + 1 }
+        ensures only { HasOnlyPages self.now.shape self.now.held }
     {
         let _count = self.frames.len();
         self.dirty

@@ -8,3 +8,6 @@ returns-clause-count c = rw (← c.self.view_is) (c.self.invariant.0 ∙ count_f
 
 pub returns-clause-most : goal.returns-clause-most
 returns-clause-most c = omega (arith, c.self.invariant.0, c.self.invariant.1, dirty_count-le-length c.self.inside.frames.entries, weight_le c.self.inside.first, c.len-count.ensures.valid.1)
+
+pub returns-clause-only : goal.returns-clause-only
+returns-clause-only c = rw (← c.self.view_is) c.self.invariant.3

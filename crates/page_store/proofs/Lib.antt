@@ -1,4 +1,5 @@
 pub mod Parts
+pub mod Logs
 pub mod Heads
 pub mod Changes
 pub mod Batch

@@ -1,8 +1,8 @@
 -- A batch of pages, and what a disk has before it and after it.
-use Rattle.std.specs.Prelude.{◌≡◌, ◌≢◌, ◌⊎◌, ℕ, ◌+◌, ◌*◌, ◌<◌, ◌≤◌, Bool, true, false, List, length, map, Option, Some, None, Result, Ok, Err}
+use Rattle.std.specs.Prelude.{◌≡◌, ◌≢◌, ◌⊎◌, ◌↔◌, ℕ, ◌+◌, ◌*◌, ◌<◌, ◌≤◌, Bool, true, false, List, length, map, Option, Some, None, Result, Ok, Err}
 use Rattle.page_store.specs.declared.area.TheConstants.{AREA_END}
 use Rattle.seg_words.specs.Types.{Shape, BLOCK_SIZE, DOUBLE_WRITE_BLOCK}
-use Rattle.disk_model.specs.Types.{Files, Meaning, Now, IsSettled, OnlyFile}
+use Rattle.disk_model.specs.Types.{Files, Meaning, Now, Leaves, IsSettled, OnlyFile}
 use Rattle.disk_model.specs.declared.disk.File.TheVariants.{Data}
 use Rattle.page_store.specs.Pages.{part, gate, block, page_in, is_sound_area, head_blocks, HasPages}
 use Rattle.page_store.specs.declared.page.RawPage.{RawPage}
@@ -43,6 +43,17 @@ pub record Leads {D : Type 0} (meaning : Meaning D) (old new : D) (shape : Shape
   pub long : length (meaning.files new).data_bytes ≡ length (meaning.files old).data_bytes
   pub log_stays : (meaning.files new).log_bytes ≡ (meaning.files old).log_bytes
   pub images : (image : Files) → Now meaning new image → OnlyFile meaning old Data (IsShut shape pages) image
+
+-- an image that a crash of the old disk would have left, but for the data file
+abbrev pub OnlyData : {D : Type 0} → Meaning D → D → Files → Type 0
+OnlyData meaning old image = OnlyFile meaning old Data (λ (bytes : List ℕ). Unit {0}) image
+
+-- Calls that wrote the data file alone, whatever it holds: the log reads as before, and at each moment a crash left a log that it
+-- might have left before.
+pub record LeavesLog {D : Type 0} (meaning : Meaning D) (old new : D) : Type 0 where
+  pub told : meaning.told new ↔ meaning.told old
+  pub log_stays : meaning.told old → (meaning.files new).log_bytes ≡ (meaning.files old).log_bytes
+  pub leaves : meaning.told old → Leaves meaning old new (OnlyData meaning old)
 
 -- the pages before the batch, or those after it
 abbrev pub WholeOrNot : Shape → (ℕ → List ℕ) → List RawPage → List ℕ → Type 0

@@ -5,7 +5,7 @@ ghost use Rattle.disk_model.specs.Types.{Leaves, Causes, Untouched, OnlyFile, Is
 ghost use Rattle.disk_model.specs.declared.disk.File.TheVariants.{Data};
 ghost use Rattle.page_store.specs.declared.page.RawPage.{RawPage};
 ghost use Rattle.page_store.specs.Pages.{HasPages, is_place, is_batch, needs_finish};
-ghost use Rattle.page_store.specs.Batches.{AsLong, after, blocks_of, IsShut, IsStore, IsUnfinished, Leads, WholeOrNot, IsOpening, IsLook, Answers};
+ghost use Rattle.page_store.specs.Batches.{AsLong, after, blocks_of, IsShut, IsStore, IsUnfinished, Leads, LeavesLog, WholeOrNot, IsOpening, IsLook, Answers};
 
 use crate::area::{AREA_END, find_area, read_page};
 use crate::page::offset_of;
@@ -32,6 +32,7 @@ impl Model for PageStore {
 }
 
 // Finishes the batch that the area has copies of.
+#[tactic(auto, using(crate::proofs::Logs::log_then, crate::proofs::Logs::log_looked))]
 fn finish<D: Disk>(disk: &mut D, blocks: &[u32]) -> Result<(), PageFault>
     requires { length blocks.now ≤ DOUBLE_WRITE_PAGES }
     ensures any_moment { (shape : Shape) (pages : ℕ → List ℕ) → IsSettled D.meaning disk.old Data → IsUnfinished shape pages blocks.now (D.meaning.files disk.old).data_bytes
@@ -39,6 +40,7 @@ fn finish<D: Disk>(disk: &mut D, blocks: &[u32]) -> Result<(), PageFault>
     ensures done { (shape : Shape) (pages : ℕ → List ℕ) → IsSettled D.meaning disk.old Data → IsUnfinished shape pages blocks.now (D.meaning.files disk.old).data_bytes
         → Answers result (λ _. Settles D.meaning disk.old disk.new Data (AsLong (D.meaning.files disk.old).data_bytes (IsShut shape pages))) }
     ensures whole { D.meaning.told disk.old → AREA_END ≤ length (D.meaning.files disk.old).data_bytes → IfErr result (λ e. e ≡ PageFault.DeviceFault) }
+    ensures log { LeavesLog D.meaning disk.old disk.new }
     ensures cause { Causes D.meaning disk.old disk.new (IsErrOf result PageFault.DeviceFault) }
     ensures told { D.meaning.told disk.new ↔ D.meaning.told disk.old }
     ensures reads { D.meaning.told disk.old → D.meaning.log_reads disk.new ≡ D.meaning.log_reads disk.old }
@@ -54,12 +56,14 @@ fn finish<D: Disk>(disk: &mut D, blocks: &[u32]) -> Result<(), PageFault>
 }
 
 // Writes a batch.
+#[tactic(auto, using(crate::proofs::Logs::log_then, crate::proofs::Logs::log_looked))]
 fn put_batch<D: Disk>(disk: &mut D, batch: &[RawPage]) -> Result<(), Failed>
     requires { length batch.now ≤ DOUBLE_WRITE_PAGES }
     ensures any_moment { (shape : Shape) (pages : ℕ → List ℕ) → IsStore D.meaning disk.old shape pages → is_batch shape (blocks_of batch.now) ≡ true
         → Leaves D.meaning disk.old disk.new (OnlyFile D.meaning disk.old Data (AsLong (D.meaning.files disk.old).data_bytes (WholeOrNot shape pages batch.now))) }
     ensures done { (shape : Shape) (pages : ℕ → List ℕ) → IsStore D.meaning disk.old shape pages → is_batch shape (blocks_of batch.now) ≡ true
         → OnOk result (Leads D.meaning disk.old disk.new shape (after batch.now pages)) }
+    ensures log { LeavesLog D.meaning disk.old disk.new }
     ensures cause { Causes D.meaning disk.old disk.new (IsErr result) }
     ensures told { D.meaning.told disk.new ↔ D.meaning.told disk.old }
     ensures reads { D.meaning.log_reads disk.new ≡ D.meaning.log_reads disk.old }
@@ -76,6 +80,7 @@ fn put_batch<D: Disk>(disk: &mut D, batch: &[RawPage]) -> Result<(), Failed>
 ///
 /// At any moment of the call a crash leaves the pages of a store as they were, as `open` reads them, in a file as long
 /// as before.
+#[tactic(auto, using(crate::proofs::Logs::log_then, crate::proofs::Logs::log_looked))]
 pub fn open<D: Disk>(disk: &mut D, shape: Shape) -> Result<PageStore, PageFault>
     ensures any_moment { (pages : ℕ → List ℕ) → IsSettled D.meaning disk.old Data → HasPages shape pages (D.meaning.files disk.old).data_bytes
         → Leaves D.meaning disk.old disk.new (OnlyFile D.meaning disk.old Data (AsLong (D.meaning.files disk.old).data_bytes (HasPages shape pages))) }
@@ -83,6 +88,8 @@ pub fn open<D: Disk>(disk: &mut D, shape: Shape) -> Result<PageStore, PageFault>
         → Answers result (λ _. Leads D.meaning disk.old disk.new shape pages) }
     ensures shape { IfOk result (λ store. store ≡ shape) }
     ensures found { D.meaning.told disk.old → IsOpening shape (D.meaning.files disk.old).data_bytes result }
+    // Whatever the file holds, the log stays.
+    ensures log { LeavesLog D.meaning disk.old disk.new }
     // What is refused, or was closed already, is left as it was.
     ensures unless_open { D.meaning.told disk.old → needs_finish shape (D.meaning.files disk.old).data_bytes ≡ false → Untouched D.meaning disk.old disk.new }
     ensures cause { Causes D.meaning disk.old disk.new (IsErrOf result PageFault.DeviceFault) }
@@ -117,6 +124,7 @@ impl PageStore {
         ensures done { (pages : ℕ → List ℕ) → IsStore D.meaning disk.old self.old pages
             → OnOk result (Leads D.meaning disk.old disk.new self.old (after batch.now pages)) }
         ensures same { self.new ≡ self.old }
+        ensures log { LeavesLog D.meaning disk.old disk.new }
         ensures cause { Causes D.meaning disk.old disk.new (IsErr result) }
         ensures only { IfErr result (λ e. e ≡ PageFault.DeviceFault) }
         ensures told { D.meaning.told disk.new ↔ D.meaning.told disk.old }

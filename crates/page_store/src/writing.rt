@@ -1,17 +1,17 @@
 // The steps of a batch, each synced before the next one begins.
-ghost use Rattle.std.specs.Prelude.{◌-◌, ◌≡◌, ◌↔◌, ◌≤◌, ◌+◌, ◌*◌, ◌∷◌, ◌++◌, ℕ, List, length, drop, true, OnOk, IfErr, IsErr, IsErrOf, flat_map};
+ghost use Rattle.std.specs.Prelude.{◌-◌, ◌≡◌, ◌↔◌, ◌≤◌, ◌+◌, ◌*◌, ◌∷◌, ◌++◌, [], ℕ, List, length, drop, true, OnOk, IfErr, IsErr, IsErrOf, flat_map};
 ghost use Rattle.seg_words.specs.Types.{w32, to_be_bytes, Shape};
 ghost use Rattle.page_bytes.specs.Types.{page_of as page_with};
-ghost use Rattle.disk_model.specs.Types.{Leaves, Causes, OnlyFile, IsSettled, Settles};
+ghost use Rattle.disk_model.specs.Types.{written, Torn, Leaves, Causes, OnlyFile, IsSettled, IsPut, Settles};
 ghost use Rattle.disk_model.specs.declared.disk.File.TheVariants.{Data};
 ghost use Rattle.page_store.specs.declared.page.RawPage.{RawPage};
 ghost use Rattle.page_store.specs.Pages.{HasPages, is_batch, block, head_blocks};
-ghost use Rattle.page_store.specs.Batches.{AsLong, after, blocks_of, IsShut, IsStore, WholeOrNot, Answers};
+ghost use Rattle.page_store.specs.Batches.{AsLong, after, blocks_of, IsShut, IsStore, LeavesLog, WholeOrNot, Answers};
 ghost use Rattle.page_store.specs.Steps.{IsCopied, IsOpened, IsPlaced, dba_bytes};
 
 use crate::area::{AREA_AT, AREA_END, AREA_HEAD, COPIES_AT, read_page};
 use crate::{PageFault, RawPage};
-use disk_model::{Disk, File, write_and_sync};
+use disk_model::{Disk, File};
 use page_bytes::{add, begin};
 use seg_base::{BLOCK_SIZE, DOUBLE_WRITE_BLOCK, DOUBLE_WRITE_PAGES, Failed};
 
@@ -45,6 +45,7 @@ pub(crate) fn write_copies<D: Disk>(disk: &mut D, batch: &[RawPage]) -> Result<(
         → Leaves D.meaning disk.old disk.new (OnlyFile D.meaning disk.old Data (AsLong (D.meaning.files disk.old).data_bytes (IsShut shape pages))) }
     ensures done { (shape : Shape) (pages : ℕ → List ℕ) → IsStore D.meaning disk.old shape pages → is_batch shape (blocks_of batch.now) ≡ true
         → OnOk result (Settles D.meaning disk.old disk.new Data (AsLong (D.meaning.files disk.old).data_bytes (IsCopied shape pages batch.now))) }
+    ensures log { LeavesLog D.meaning disk.old disk.new }
     ensures cause { Causes D.meaning disk.old disk.new (IsErr result) }
     ensures told { D.meaning.told disk.new ↔ D.meaning.told disk.old }
     ensures reads { D.meaning.log_reads disk.new ≡ D.meaning.log_reads disk.old }
@@ -58,17 +59,31 @@ pub(crate) fn write_copies<D: Disk>(disk: &mut D, batch: &[RawPage]) -> Result<(
     disk.sync(File::Data)
 }
 
+// Writes the gate of the area, and syncs the file.
+fn set_gate<D: Disk>(disk: &mut D, gate: u8) -> Result<(), Failed>
+    ensures any_moment { IsSettled D.meaning disk.old Data → Leaves D.meaning disk.old disk.new (OnlyFile D.meaning disk.old Data (Torn AREA_AT 1 (D.meaning.files disk.old).data_bytes)) }
+    ensures put { IsSettled D.meaning disk.old Data → OnOk result (IsPut D.meaning disk.old disk.new Data (written (D.meaning.files disk.old).data_bytes AREA_AT (gate ∷ []))) }
+    ensures log { LeavesLog D.meaning disk.old disk.new }
+    ensures cause { Causes D.meaning disk.old disk.new (IsErr result) }
+    ensures told { D.meaning.told disk.new ↔ D.meaning.told disk.old }
+    ensures reads { D.meaning.log_reads disk.new ≡ D.meaning.log_reads disk.old }
+{
+    disk.write_at(File::Data, AREA_AT, &[gate])?;
+    disk.sync(File::Data)
+}
+
 /// Opens the gate of the area: from then on the copies count.
 pub(crate) fn open_area<D: Disk>(disk: &mut D) -> Result<(), Failed>
     ensures any_moment { (shape : Shape) (pages : ℕ → List ℕ) (batch : List RawPage) → IsSettled D.meaning disk.old Data → IsCopied shape pages batch (D.meaning.files disk.old).data_bytes
         → Leaves D.meaning disk.old disk.new (OnlyFile D.meaning disk.old Data (AsLong (D.meaning.files disk.old).data_bytes (WholeOrNot shape pages batch))) }
     ensures done { (shape : Shape) (pages : ℕ → List ℕ) (batch : List RawPage) → IsSettled D.meaning disk.old Data → IsCopied shape pages batch (D.meaning.files disk.old).data_bytes
         → OnOk result (Settles D.meaning disk.old disk.new Data (AsLong (D.meaning.files disk.old).data_bytes (IsOpened shape pages batch))) }
+    ensures log { LeavesLog D.meaning disk.old disk.new }
     ensures cause { Causes D.meaning disk.old disk.new (IsErr result) }
     ensures told { D.meaning.told disk.new ↔ D.meaning.told disk.old }
     ensures reads { D.meaning.log_reads disk.new ≡ D.meaning.log_reads disk.old }
 {
-    write_and_sync(disk, File::Data, AREA_AT, &[1])
+    set_gate(disk, 1)
 }
 
 /// Writes the pages to their blocks.
@@ -77,6 +92,7 @@ pub(crate) fn write_places<D: Disk>(disk: &mut D, batch: &[RawPage]) -> Result<(
         → Leaves D.meaning disk.old disk.new (OnlyFile D.meaning disk.old Data (AsLong (D.meaning.files disk.old).data_bytes (HasPages shape (after batch.now pages)))) }
     ensures done { (shape : Shape) (pages : ℕ → List ℕ) → IsSettled D.meaning disk.old Data → IsOpened shape pages batch.now (D.meaning.files disk.old).data_bytes
         → OnOk result (Settles D.meaning disk.old disk.new Data (AsLong (D.meaning.files disk.old).data_bytes (IsPlaced shape pages batch.now))) }
+    ensures log { LeavesLog D.meaning disk.old disk.new }
     ensures cause { Causes D.meaning disk.old disk.new (IsErr result) }
     ensures told { D.meaning.told disk.new ↔ D.meaning.told disk.old }
     ensures reads { D.meaning.log_reads disk.new ≡ D.meaning.log_reads disk.old }
@@ -97,6 +113,7 @@ pub(crate) fn place_copies<D: Disk>(disk: &mut D, blocks: &[u32]) -> Result<(), 
         → blocks.now ≡ head_blocks (block DOUBLE_WRITE_BLOCK (D.meaning.files disk.old).data_bytes)
         → Answers result (λ _. Settles D.meaning disk.old disk.new Data (AsLong (D.meaning.files disk.old).data_bytes (IsPlaced shape pages batch))) }
     ensures whole { D.meaning.told disk.old → AREA_END ≤ length (D.meaning.files disk.old).data_bytes → IfErr result (λ e. e ≡ PageFault.DeviceFault) }
+    ensures log { LeavesLog D.meaning disk.old disk.new }
     ensures cause { Causes D.meaning disk.old disk.new (IsErrOf result PageFault.DeviceFault) }
     ensures told { D.meaning.told disk.new ↔ D.meaning.told disk.old }
     ensures reads { D.meaning.told disk.old → D.meaning.log_reads disk.new ≡ D.meaning.log_reads disk.old }
@@ -118,9 +135,10 @@ pub(crate) fn close_area<D: Disk>(disk: &mut D) -> Result<(), Failed>
         → Leaves D.meaning disk.old disk.new (OnlyFile D.meaning disk.old Data (AsLong (D.meaning.files disk.old).data_bytes (HasPages shape (after batch pages)))) }
     ensures done { (shape : Shape) (pages : ℕ → List ℕ) (batch : List RawPage) → IsSettled D.meaning disk.old Data → IsPlaced shape pages batch (D.meaning.files disk.old).data_bytes
         → OnOk result (Settles D.meaning disk.old disk.new Data (AsLong (D.meaning.files disk.old).data_bytes (IsShut shape (after batch pages)))) }
+    ensures log { LeavesLog D.meaning disk.old disk.new }
     ensures cause { Causes D.meaning disk.old disk.new (IsErr result) }
     ensures told { D.meaning.told disk.new ↔ D.meaning.told disk.old }
     ensures reads { D.meaning.log_reads disk.new ≡ D.meaning.log_reads disk.old }
 {
-    write_and_sync(disk, File::Data, AREA_AT, &[0])
+    set_gate(disk, 0)
 }

@@ -10,7 +10,7 @@ pub returns-clause-any_moment : goal.returns-clause-any_moment
 returns-clause-any_moment g c shape pages batch settled copied =
     let meaning = g.D.Disk.meaning in
     let old = (meaning.files c.args.disk.now).data_bytes in
-    leaves_so meaning Data c.args.disk.now c.write_and_sync.new.disk (AsLong old (WholeOrNot shape pages batch)) (Torn AREA_AT 1 old) (c.write_and_sync.ensures.any_moment settled)
+    leaves_so meaning Data c.args.disk.now c.set_gate.new.disk (AsLong old (WholeOrNot shape pages batch)) (Torn AREA_AT 1 old) (c.set_gate.ensures.any_moment settled)
     (λ b torn. record { long = (gate_torn shape pages batch old b copied.copies torn).long; is = opening shape pages batch old b copied torn })
 
 pub returns-clause-done : goal.returns-clause-done
@@ -19,4 +19,4 @@ returns-clause-done g c shape pages batch settled copied =
     let old = (meaning.files c.args.disk.now).data_bytes in
     let new = written old AREA_AT (1 ∷ []) in
     let long = (gate_torn shape pages batch old new copied.copies (torn_written old (1 ∷ []) AREA_AT)).long in
-    on_ok c.write_and_sync.result (λ put. put_settles meaning Data c.args.disk.now c.write_and_sync.new.disk new (AsLong old (IsOpened shape pages batch)) put (record { long = long; is = opened shape pages batch old copied })) (c.write_and_sync.ensures.put settled)
+    on_ok c.set_gate.result (λ put. put_settles meaning Data c.args.disk.now c.set_gate.new.disk new (AsLong old (IsOpened shape pages batch)) put (record { long = long; is = opened shape pages batch old copied })) (c.set_gate.ensures.put settled)

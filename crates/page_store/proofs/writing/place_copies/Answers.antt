@@ -6,6 +6,7 @@ use Rattle.page_store.specs.Types.{InPlace}
 use Rattle.page_store.proofs.Changes.{Stays}
 use Rattle.page_store.proofs.Stages.{BesideBatch, as_many}
 use Rattle.page_store.proofs.Moves.{cut_short, places_started, looked_leave, all_there, place_copy, more_copies, places_leave, places_settle}
+use Rattle.page_store.proofs.Logs.{log_started, log_looked, log_then, log_written, log_synced}
 use Rattle.page_store.proofs.writing.place_copies.Goals as goal
 
 pub returns-in_err-read_page-clause-any_moment : goal.returns-in_err-read_page-clause-any_moment
@@ -35,6 +36,7 @@ pub loop-i-init : goal.loop-i-init
 loop-i-init g c = record {
   later = omega arith;
   told = (λ is. is, λ is. is);
+  log = log_started g.D.Disk.meaning c.args.disk.now;
   reads = λ _. refl;
   grows = λ _. omega arith;
   run = λ shape pages batch settled opened named. places_started g.D.Disk.meaning c.args.disk.now batch settled;
@@ -47,6 +49,7 @@ loop-i-preserved g c =
     let so_far = c.loop-i.invariant in
     record {
       later = omega (arith, so_far.later, look.cause.later, write.cause.later);
+      log = log_then g.D.Disk.meaning c.args.disk.now c.read_page.new.disk c.write_at.new.self (log_then g.D.Disk.meaning c.args.disk.now c.loop-i.disk c.read_page.new.disk (c.loop-i.invariant.log) (log_looked g.D.Disk.meaning c.loop-i.disk c.read_page.new.disk c.read_page.ensures.untouched)) (log_written g.D.Disk.meaning c.read_page.new.disk c.write_at.new.self _ _ c.write_at.ensures.time c.write_at.ensures.told c.write_at.ensures.crash c.write_at.ensures.torn);
       told = (λ is. so_far.told.0 (look.untouched.told.0 (write.told.0 is)), λ is. write.told.1 (look.untouched.told.1 (so_far.told.1 is)));
       reads = λ told. write.reads ∙ look.reads (so_far.told.1 told) ∙ so_far.reads told;
       grows = λ told.
@@ -83,3 +86,18 @@ returns-clause-done g c shape pages batch settled opened named =
     let many = as_many shape pages batch (meaning.files start).data_bytes opened c.args.blocks.now named in
     places_settle meaning start batch shape pages opened c.sync.new.self c.loop-i.i done (omega (arith, many, c.loop-i-test.false))
     (run_settles meaning start Data E c.loop-i.disk c.sync.new.self (InPlace c.loop-i.i batch) done (c.loop-i.invariant.run shape pages batch settled opened named) c.in_ok-sync.ensures.durable sync.told.1 sync.same)
+
+pub returns-in_err-read_page-clause-log : goal.returns-in_err-read_page-clause-log
+returns-in_err-read_page-clause-log g c = log_then g.D.Disk.meaning c.args.disk.now c.loop-i.disk c.read_page.new.disk (c.loop-i.invariant.log) (log_looked g.D.Disk.meaning c.loop-i.disk c.read_page.new.disk c.read_page.ensures.untouched)
+
+pub returns-then-not-branch-clause-log : goal.returns-then-not-branch-clause-log
+returns-then-not-branch-clause-log g c = log_then g.D.Disk.meaning c.args.disk.now c.loop-i.disk c.read_page.new.disk (c.loop-i.invariant.log) (log_looked g.D.Disk.meaning c.loop-i.disk c.read_page.new.disk c.read_page.ensures.untouched)
+
+pub returns-in_err-write_at-clause-log : goal.returns-in_err-write_at-clause-log
+returns-in_err-write_at-clause-log g c = log_then g.D.Disk.meaning c.args.disk.now c.read_page.new.disk c.write_at.new.self (log_then g.D.Disk.meaning c.args.disk.now c.loop-i.disk c.read_page.new.disk (c.loop-i.invariant.log) (log_looked g.D.Disk.meaning c.loop-i.disk c.read_page.new.disk c.read_page.ensures.untouched)) (log_written g.D.Disk.meaning c.read_page.new.disk c.write_at.new.self _ _ c.write_at.ensures.time c.write_at.ensures.told c.write_at.ensures.crash c.write_at.ensures.torn)
+
+pub returns-in_err-sync-clause-log : goal.returns-in_err-sync-clause-log
+returns-in_err-sync-clause-log g c = log_then g.D.Disk.meaning c.args.disk.now c.loop-i.disk c.sync.new.self (c.loop-i.invariant.log) (log_synced g.D.Disk.meaning c.loop-i.disk c.sync.new.self c.sync.result c.sync.ensures.time c.sync.ensures.told c.sync.ensures.durable c.sync.ensures.crash c.sync.ensures.same)
+
+pub returns-clause-log : goal.returns-clause-log
+returns-clause-log g c = log_then g.D.Disk.meaning c.args.disk.now c.loop-i.disk c.sync.new.self (c.loop-i.invariant.log) (log_synced g.D.Disk.meaning c.loop-i.disk c.sync.new.self c.sync.result c.sync.ensures.time c.sync.ensures.told c.sync.ensures.durable c.sync.ensures.crash c.sync.ensures.same)

@@ -3,7 +3,7 @@ use Rattle.seg_words.specs.Types.{Shape, DOUBLE_WRITE_BLOCK}
 use Rattle.disk_model.specs.Types.{IsSettled}
 use Rattle.disk_model.specs.declared.disk.File.TheVariants.{Data}
 use Rattle.disk_model.proofs.Lemmas.{Running}
-use Rattle.page_store.specs.Types.{block, head_blocks, InPlace, IsOpened, RawPage}
+use Rattle.page_store.specs.Types.{LeavesLog, block, head_blocks, InPlace, IsOpened, RawPage}
 use Rattle.page_store.proofs.Changes.{Stays}
 use Rattle.page_store.proofs.Stages.{BesideBatch}
 use Rattle.page_store.proofs.writing.place_copies.Given as goal
@@ -15,6 +15,7 @@ invariant-loop-i g l =
     record {
       later : meaning.fault_count l.fn.disk ≤ meaning.fault_count l.disk;
       told : meaning.told l.disk ↔ meaning.told l.fn.disk;
+      log : LeavesLog meaning l.fn.disk l.disk;
       reads : meaning.told l.fn.disk → meaning.log_reads l.disk ≡ meaning.log_reads l.fn.disk;
       grows : meaning.told l.fn.disk → length old ≤ length (meaning.files l.disk).data_bytes;
       run : (shape : Shape) (pages : ℕ → List ℕ) (batch : List RawPage) → IsSettled meaning l.fn.disk Data → IsOpened shape pages batch old → l.blocks ≡ head_blocks (block DOUBLE_WRITE_BLOCK old) → Running meaning l.fn.disk l.disk Data (Stays (BesideBatch batch) old) (InPlace l.i batch);

@@ -6,6 +6,7 @@ use Rattle.disk_model.proofs.Lemmas.{run_synced, run_settles}
 use Rattle.page_store.proofs.Changes.{Stays}
 use Rattle.page_store.proofs.Stages.{BesideArea}
 use Rattle.page_store.proofs.Moves.{Copying, copies_started, shut_leave, head_write, head_more, copy_write, copy_more, copies_settle}
+use Rattle.page_store.proofs.Logs.{log_then, log_written, log_synced}
 use Rattle.page_store.proofs.writing.write_copies.Goals as goal
 
 pub returns-in_err-write_at-clause-any_moment : goal.returns-in_err-write_at-clause-any_moment
@@ -26,6 +27,7 @@ loop-i-init g c =
     record {
       later = write.cause.later;
       told = (write.told.0, write.told.1);
+      log = log_written g.D.Disk.meaning c.args.disk.now c.write_at.new.self _ _ c.write_at.ensures.time c.write_at.ensures.told c.write_at.ensures.crash c.write_at.ensures.torn;
       reads = write.reads;
       run = λ shape pages store. head_more meaning start batch shape pages store start c.write_at.new.self c.behind_gate.result.now head c.behind_gate.ensures.long (copies_started meaning start batch shape pages store) write.time write.crash write.told.1 c.in_ok-write_at.ensures.written;
     }
@@ -41,6 +43,7 @@ loop-i-preserved g c =
     let so_far = c.loop-i.invariant in
     record {
       later = omega (arith, so_far.later, write.cause.later);
+      log = log_then g.D.Disk.meaning c.args.disk.now c.loop-i.disk c.write_at-in-loop-i.new.self (c.loop-i.invariant.log) (log_written g.D.Disk.meaning c.loop-i.disk c.write_at-in-loop-i.new.self _ _ c.write_at-in-loop-i.ensures.time c.write_at-in-loop-i.ensures.told c.write_at-in-loop-i.ensures.crash c.write_at-in-loop-i.ensures.torn);
       told = (λ is. so_far.told.0 (write.told.0 is), λ is. write.told.1 (so_far.told.1 is));
       reads = write.reads ∙ so_far.reads;
       run = λ shape pages store. copy_more g.D.Disk.meaning c.args.disk.now c.args.batch.now shape pages store c.loop-i.disk c.write_at-in-loop-i.new.self c.loop-i.i c.index-batch-i.result (COPIES_AT + BLOCK_SIZE * c.loop-i.i) c.as_slice.result.now c.loop-i-test.true c.requires c.index-batch-i.is refl c.as_slice.ensures.bytes c.as_slice.ensures.whole (so_far.run shape pages store) write.time write.crash write.told.1 c.in_ok-write_at-2.ensures.written;
@@ -64,3 +67,12 @@ returns-clause-done g c shape pages store places =
     let sync = c.sync.ensures in
     copies_settle meaning start batch shape pages store c.sync.new.self c.loop-i.i c.sync.result places c.loop-i-test.false
     (run_settles meaning start Data A c.loop-i.disk c.sync.new.self (Copying batch c.loop-i.i) c.sync.result (c.loop-i.invariant.run shape pages store) sync.durable sync.told.1 sync.same)
+
+pub returns-in_err-write_at-clause-log : goal.returns-in_err-write_at-clause-log
+returns-in_err-write_at-clause-log g c = log_written g.D.Disk.meaning c.args.disk.now c.write_at.new.self _ _ c.write_at.ensures.time c.write_at.ensures.told c.write_at.ensures.crash c.write_at.ensures.torn
+
+pub returns-in_err-write_at-2-clause-log : goal.returns-in_err-write_at-2-clause-log
+returns-in_err-write_at-2-clause-log g c = log_then g.D.Disk.meaning c.args.disk.now c.loop-i.disk c.write_at-in-loop-i.new.self (c.loop-i.invariant.log) (log_written g.D.Disk.meaning c.loop-i.disk c.write_at-in-loop-i.new.self _ _ c.write_at-in-loop-i.ensures.time c.write_at-in-loop-i.ensures.told c.write_at-in-loop-i.ensures.crash c.write_at-in-loop-i.ensures.torn)
+
+pub returns-clause-log : goal.returns-clause-log
+returns-clause-log g c = log_then g.D.Disk.meaning c.args.disk.now c.loop-i.disk c.sync.new.self (c.loop-i.invariant.log) (log_synced g.D.Disk.meaning c.loop-i.disk c.sync.new.self c.sync.result c.sync.ensures.time c.sync.ensures.told c.sync.ensures.durable c.sync.ensures.crash c.sync.ensures.same)

@@ -3,7 +3,7 @@ use Rattle.seg_words.specs.Types.{Shape}
 use Rattle.disk_model.specs.Types.{IsSettled}
 use Rattle.disk_model.specs.declared.disk.File.TheVariants.{Data}
 use Rattle.disk_model.proofs.Lemmas.{Running}
-use Rattle.page_store.specs.Types.{InPlace, IsOpened}
+use Rattle.page_store.specs.Types.{LeavesLog, InPlace, IsOpened}
 use Rattle.page_store.proofs.Changes.{Stays}
 use Rattle.page_store.proofs.Stages.{BesideBatch}
 use Rattle.page_store.proofs.writing.write_places.Given as goal
@@ -15,6 +15,7 @@ invariant-loop-page g l =
     record {
       later : meaning.fault_count l.fn.disk ≤ meaning.fault_count l.disk;
       told : meaning.told l.disk ↔ meaning.told l.fn.disk;
+      log : LeavesLog meaning l.fn.disk l.disk;
       reads : meaning.log_reads l.disk ≡ meaning.log_reads l.fn.disk;
       run : (shape : Shape) (pages : ℕ → List ℕ) → IsSettled meaning l.fn.disk Data → IsOpened shape pages l.batch old → Running meaning l.fn.disk l.disk Data (Stays (BesideBatch l.batch) old) (InPlace l.page-index l.batch);
     }

@@ -98,3 +98,9 @@ Answers (Ok answer) P = P answer
 Answers (Err DeviceFault) P = Unit {0}
 Answers (Err (BadPage dba)) P = ⊥
 Answers (Err NoMemory) P = ⊥
+
+-- a fault of a page names a block for which this holds
+abbrev pub Names : (ℕ → Type 0) → PageFault → Type 0
+Names P DeviceFault = Unit {0}
+Names P (BadPage dba) = P dba
+Names P NoMemory = Unit {0}

@@ -5,7 +5,7 @@ ghost use Rattle.disk_model.specs.Types.{Leaves, Causes, Untouched, OnlyFile, Is
 ghost use Rattle.disk_model.specs.declared.disk.File.TheVariants.{Data};
 ghost use Rattle.page_store.specs.declared.page.RawPage.{RawPage};
 ghost use Rattle.page_store.specs.Pages.{HasPages, is_place, is_batch, needs_finish};
-ghost use Rattle.page_store.specs.Batches.{AsLong, after, blocks_of, IsShut, IsStore, IsUnfinished, Leads, LeavesLog, WholeOrNot, IsOpening, IsLook, Answers};
+ghost use Rattle.page_store.specs.Batches.{AsLong, after, blocks_of, IsShut, IsStore, IsUnfinished, Leads, LeavesLog, WholeOrNot, IsOpening, IsLook, Answers, Names};
 
 use crate::area::{AREA_END, find_area, read_page};
 use crate::page::offset_of;
@@ -146,6 +146,7 @@ impl PageStore {
         requires { is_place self.old dba ≡ true }
         ensures page { (pages : ℕ → List ℕ) → IsStore D.meaning disk.old self.old pages → Answers result (λ _. into.new ≡ pages dba) }
         ensures found { D.meaning.told disk.old → IsLook (D.meaning.files disk.old).data_bytes dba into.new result }
+        ensures names { IfErr result (Names (λ b. b ≡ dba)) }
         ensures same { self.new ≡ self.old }
         ensures cause { Causes D.meaning disk.old disk.new (IsErrOf result PageFault.DeviceFault) }
         ensures untouched { Untouched D.meaning disk.old disk.new }

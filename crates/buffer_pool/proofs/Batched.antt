@@ -26,7 +26,7 @@ use Rattle.page_set.specs.Spelled.{HasSpelling, meaning_of, spelling_of}
 use Rattle.page_set.proofs.ReadAgain.{meaning_again}
 use Rattle.buffer_pool.specs.declared.frame.Frame.{Frame}
 use Rattle.buffer_pool.specs.Frames.{dirty_count, frame_at, framed, has_page, page_over, weight, HasOnlyPages, IsDirty, IsShown, Shows}
-use Rattle.buffer_pool.specs.Batches.{cleaned, due_blocks, is_due, raw_page, AreUpTo, IsDueIn, ReadBack, Settled}
+use Rattle.buffer_pool.specs.Batches.{cleaned, due_blocks, is_due, raw_page, AreDirtyUpTo, AreUpTo, IsDueIn, ReadBack, Settled}
 use Rattle.buffer_pool.proofs.Drops.{one_number}
 
 -- which frames are due
@@ -88,24 +88,31 @@ dirty_of upto (Some f) h = h.0
 pub due_dirty : (upto : ℕ) (held : List (ℕ × Frame)) (numbers : List ℕ) → All (λ d. IsDueIn upto (frame_at held d)) numbers → All (λ d. IsDirty (frame_at held d)) numbers
 due_dirty upto held numbers due = λ i d less. dirty_of upto (frame_at held (get_or numbers i d)) (due i d less)
 
-count_due : (upto : ℕ) (es : List (ℕ × Frame)) → All (λ (f : Frame). lsn_of f.page ≤ upto) (values_of es) → length (due_blocks upto es) ≡ dirty_count es
+count_due : (upto : ℕ) (es : List (ℕ × Frame)) → All (λ (f : Frame). f.dirty ≡ true → lsn_of f.page ≤ upto) (values_of es) → length (due_blocks upto es) ≡ dirty_count es
 count_due upto [] h = refl
 count_due upto (e ∷ es) h =
-    let here : lsn_of e.1.page ≤ upto = h 0 e.1 (omega arith) in
+    let here : e.1.dirty ≡ true → lsn_of e.1.page ≤ upto = h 0 e.1 (omega arith) in
     let rest = count_due upto es (λ k d less. h (suc k) d (omega arith)) in
-    let test : nat_le (lsn_of e.1.page) upto ≡ true = le-leb (lsn_of e.1.page) upto here in
-    counted e.1.dirty refl test rest
+    counted e.1.dirty refl (λ d. le-leb (lsn_of e.1.page) upto (here d)) rest
   where
-    counted : (t : Bool) → e.1.dirty ≡ t → nat_le (lsn_of e.1.page) upto ≡ true → length (due_blocks upto es) ≡ dirty_count es → length (due_blocks upto (e ∷ es)) ≡ dirty_count (e ∷ es)
-    counted true d test rest = grind (arith, common_steps, d, test, rest)
-    counted false d test rest = grind (arith, common_steps, d, test, rest)
+    counted : (t : Bool) → e.1.dirty ≡ t → (e.1.dirty ≡ true → nat_le (lsn_of e.1.page) upto ≡ true) → length (due_blocks upto es) ≡ dirty_count es → length (due_blocks upto (e ∷ es)) ≡ dirty_count (e ∷ es)
+    counted true d test rest = let few : nat_le (lsn_of e.1.page) upto ≡ true = test d in grind (arith, common_steps, d, few, rest)
+    counted false d test rest = grind (arith, common_steps, d, rest)
 
-pub many_due : (upto n : ℕ) (f : Frame) (es : List (ℕ × Frame)) (numbers : List ℕ) → IsDistinct nat_eq (keys_of es) → frame_at es n ≡ None → AreUpTo upto ((n, f) ∷ es) → IsPermutation (due_blocks upto ((n, f) ∷ es)) numbers → length numbers ≡ weight f + dirty_count es
+pub many_due : (upto n : ℕ) (f : Frame) (es : List (ℕ × Frame)) (numbers : List ℕ) → IsDistinct nat_eq (keys_of es) → frame_at es n ≡ None → AreDirtyUpTo upto ((n, f) ∷ es) → IsPermutation (due_blocks upto ((n, f) ∷ es)) numbers → length numbers ≡ weight f + dirty_count es
 many_due upto n f es numbers apart none up same =
-    let each = All-values_from_lookup nat_eq_equiv (λ (g : Frame). lsn_of g.page ≤ upto) ((n, f) ∷ es) (all_apart n f es apart none) up.at in
+    let each = All-values_from_lookup nat_eq_equiv (λ (g : Frame). g.dirty ≡ true → lsn_of g.page ≤ upto) ((n, f) ∷ es) (all_apart n f es apart none) up.at in
     let count = count_due upto ((n, f) ∷ es) each in
     let long = length_permutation (due_blocks upto ((n, f) ∷ es)) numbers same in
     grind (arith, common_steps, count, long)
+
+-- where no page was changed after `upto`, none in a dirty frame was
+pub dirty_too : (upto : ℕ) (held : List (ℕ × Frame)) → AreUpTo upto held → AreDirtyUpTo upto held
+dirty_too upto held up = record { at = λ d. of_some (frame_at held d) (up.at d) }
+  where
+    of_some : (o : Option Frame) → IfSome o (λ f. lsn_of f.page ≤ upto) → IfSome o (λ f. f.dirty ≡ true → lsn_of f.page ≤ upto)
+    of_some None h = tt
+    of_some (Some f) h = λ dirty. h
 
 -- the first of them
 

@@ -1,5 +1,5 @@
 -- What bringing a block into a frame answers, and which frames there are afterwards.
-use Rattle.std.proofs.Common.{◌≡◌, ◌⊎◌, inl, inr, ℕ, Bool, true, false, List, [], ◌∷◌, Option, Some, None, IsSome, is_some, Result, Err, Ok, refl, sym, subst, arith, cond, nat_eq}
+use Rattle.std.proofs.Common.{◌≡◌, ◌⊎◌, inl, inr, ℕ, ◌≤◌, Bool, true, false, List, [], ◌∷◌, Option, Some, None, IfSome, IsSome, is_some, Result, Err, Ok, refl, sym, subst, arith, cond, nat_eq}
 use Rattle.std.proofs.lemmas.Bool.{true≢false}
 use Rattle.std.proofs.lemmas.Bool.Decides.{nat_tests}
 use Rattle.seg_words.specs.Types.{Shape}
@@ -8,6 +8,8 @@ use Rattle.page_store.specs.declared.fault.PageFault.TheVariants.{DeviceFault, B
 use Rattle.page_set.specs.declared.page.Page.{Page}
 use Rattle.buffer_pool.specs.declared.frame.Frame.{Frame}
 use Rattle.buffer_pool.specs.Frames.{clean_frame, frame_at, has_page, in_file, HasOnlyPages, IsShown, IsSpelled, IsWritten, Shows}
+use Rattle.page_set.specs.Pages.{lsn_of}
+use Rattle.buffer_pool.specs.Batches.{AreDirtyUpTo}
 use Rattle.buffer_pool.specs.Reading.{IsFetching, IsReading}
 
 pub is_none : (o : Option Frame) → is_some o ≡ false → o ≡ None
@@ -87,6 +89,13 @@ was_there a b absent d h = decide (frame_at a d) refl
 
 pub pages_dropped : (sh : Shape) (n : ℕ) (f : Frame) (a b : List (ℕ × Frame)) → ((d : ℕ) → frame_at a d ≡ None → frame_at b d ≡ None) → HasOnlyPages sh ((n, f) ∷ a) → HasOnlyPages sh ((n, f) ∷ b)
 pages_dropped sh n f a b absent old = still_pages sh n n f a b (λ d h. inl (was_there a b absent d h)) old
+
+pub clean_first : (n : ℕ) (p : Page) → AreDirtyUpTo 0 ((n, clean_frame p) ∷ [])
+clean_first n p = record { at = λ d. decide (nat_eq d n) }
+  where
+    decide : (t : Bool) → IfSome (cond t (Some (clean_frame p)) None) (λ f. f.dirty ≡ true → lsn_of f.page ≤ 0)
+    decide true = λ dirty. absurd (true≢false (sym dirty))
+    decide false = tt
 
 -- a pool in which block n alone has a frame
 pub only_first : (sh : Shape) (n : ℕ) (f : Frame) → has_page sh n ≡ true → HasOnlyPages sh ((n, f) ∷ [])

@@ -3,7 +3,7 @@ use Rattle.std.proofs.Common.{◌≡◌, ℕ, zero, suc, ◌≤◌, Bool, true, 
 use Rattle.std.proofs.lemmas.Bool.{true≢false, eq-eqb, eqb-true}
 use Rattle.seg_words.specs.Types.{Shape}
 use Rattle.disk_model.specs.Types.{Meaning}
-use Rattle.page_store.specs.Types.{IsStore}
+use Rattle.page_store.specs.Types.{IsStore, Names}
 use Rattle.page_store.specs.declared.fault.PageFault.{PageFault}
 use Rattle.page_store.specs.declared.fault.PageFault.TheVariants.{DeviceFault, BadPage, NoMemory}
 use Rattle.page_set.specs.Among.{is_among}
@@ -92,6 +92,22 @@ module _ (sh : Shape) (pages : ℕ → List ℕ) where
   why_behind a b ds n DeviceFault same h = tt
   why_behind a b ds n (BadPage x) same h = (among_rest ds x (among_take n (drop 1 ds) x h.0), still_why a b x same h.1, h.2)
   why_behind a b ds n NoMemory same h = tt
+
+-- which block is named
+pub names_head : (ds : List ℕ) (d : ℕ) (e : PageFault) → 1 ≤ length ds → d ≡ slice_index_or ds 0 d → Names (λ b. b ≡ d) e → Names (λ b. is_among ds b ≡ true) e
+names_head ds d DeviceFault some is h = tt
+names_head ds d (BadPage b) some is h = subst (λ (j : ℕ). is_among ds j ≡ true) (sym h) (among_first ds d some is)
+names_head ds d NoMemory some is h = tt
+
+pub names_rest : (ds : List ℕ) (n : ℕ) (e : PageFault) → Names (λ b. is_among (take n (drop 1 ds)) b ≡ true) e → Names (λ b. is_among ds b ≡ true) e
+names_rest ds n DeviceFault h = tt
+names_rest ds n (BadPage b) h = among_rest ds b (among_take n (drop 1 ds) b h)
+names_rest ds n NoMemory h = tt
+
+pub names_so : (P Q : ℕ → Type 0) (e : PageFault) → ((b : ℕ) → P b → Q b) → Names P e → Names Q e
+names_so P Q DeviceFault f h = tt
+names_so P Q (BadPage b) f h = f b h
+names_so P Q NoMemory f h = tt
 
 module _ {D : Type 0} (meaning : Meaning D) (d0 d1 : D) (p q : Pool) (looks : Looks meaning d0 d1 p q) (pages : ℕ → List ℕ) (s : IsStore meaning d0 p.shape pages) where
   store_now : IsStore meaning d1 q.shape pages

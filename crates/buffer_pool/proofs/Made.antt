@@ -3,6 +3,7 @@ use Rattle.std.proofs.Common.{◌≡◌, inl, inr, ℕ, suc, ◌+◌, Bool, true
 use Rattle.std.proofs.lemmas.Bool.{true≢false, eqb-true, eq-eqb, lt-ltb, cases_Bool}
 use Rattle.seg_words.specs.Types.{Shape}
 use Rattle.redo_record.specs.declared.record.Record.{Record}
+use Rattle.page_store.specs.Types.{Names}
 use Rattle.page_store.specs.declared.fault.PageFault.{PageFault}
 use Rattle.page_store.specs.declared.fault.PageFault.TheVariants.{DeviceFault, BadPage, NoMemory}
 use Rattle.page_set.specs.declared.page.Page.{Page}
@@ -343,6 +344,40 @@ module _ (sh : Shape) (pages : ℕ → List ℕ) (image : ℕ → Page) (old new
       after_first : has_page sh d ≡ true → IsSome (frame_at new d) → over_in (made r lsn [] new (touched_once sh r)) (framed new d) d ≡ redone sh r lsn d (image d)
       after_first has some =
           ap (λ (p : Page). over_in (made r lsn [] new (touched_once sh r)) p d) (page_now d s has some) ∙ redone_one sh r lsn new d (pages d) (image d) all (s.at d has)
+
+-- which blocks are named
+
+pub touched_one : (sh : Shape) (r : Record) (ds : List ℕ) (b : ℕ) → ds ≡ touched_once sh r → is_among ds b ≡ true → any_touches sh r None b ≡ true
+touched_one sh r ds b is h = sym ((are_listed sh r).0 b) ∙ ap (λ (xs : List ℕ). is_among xs b) (sym is) ∙ h
+
+pub touched_either : (sh : Shape) (r s : Record) (ds es all : List ℕ) (b : ℕ) → ds ≡ touched_once sh r → es ≡ touched_once sh s → all ≡ ds ++ es → is_among all b ≡ true → any_touches sh r (Some s) b ≡ true
+touched_either sh r s ds es all b is more split h =
+    sym (ap (λ (x : Bool). x || is_among (touched_once sh s) b) ((are_listed sh r).0 b) ∙ ap (λ (x : Bool). is_among (touched sh r) b || x) ((are_listed sh s).0 b))
+    ∙ sym (among_append (touched_once sh r) (touched_once sh s) b)
+    ∙ ap (λ (xs : List ℕ). is_among xs b) (sym (split ∙ ap (λ (xs : List ℕ). xs ++ es) is ∙ ap (λ (xs : List ℕ). touched_once sh r ++ xs) more)) ∙ h
+
+pub names_one : (sh : Shape) (r : Record) (ds : List ℕ) (e : PageFault) → ds ≡ touched_once sh r → Names (λ b. is_among ds b ≡ true) e → Names (λ b. any_touches sh r None b ≡ true) e
+names_one sh r ds DeviceFault is h = tt
+names_one sh r ds (BadPage b) is h = touched_one sh r ds b is h
+names_one sh r ds NoMemory is h = tt
+
+pub names_two : (sh : Shape) (r s : Record) (ds es all : List ℕ) (e : PageFault) → ds ≡ touched_once sh r → es ≡ touched_once sh s → all ≡ ds ++ es → Names (λ b. is_among all b ≡ true) e → Names (λ b. any_touches sh r (Some s) b ≡ true) e
+names_two sh r s ds es all DeviceFault is more split h = tt
+names_two sh r s ds es all (BadPage b) is more split h = touched_either sh r s ds es all b is more split h
+names_two sh r s ds es all NoMemory is more split h = tt
+
+pub names_made : (sh : Shape) (r : Record) (lsn : ℕ) (held : List (ℕ × Frame)) (ds : List ℕ) (e : PageFault) → ds ≡ touched_once sh r → WhyNotMade r lsn [] held ds e → Names (λ b. any_touches sh r None b ≡ true) e
+names_made sh r lsn held ds DeviceFault is h = tt
+names_made sh r lsn held ds (BadPage b) is h = touched_one sh r ds b is h.0
+names_made sh r lsn held ds NoMemory is h = tt
+
+pub names_made_two : (sh : Shape) (r s : Record) (lsn : ℕ) (held : List (ℕ × Frame)) (ds es : List ℕ) (e : PageFault) → ds ≡ touched_once sh r → es ≡ touched_once sh s → WhyNotMadeByTwo r s lsn held ds es e → Names (λ b. any_touches sh r (Some s) b ≡ true) e
+names_made_two sh r s lsn held ds es DeviceFault is more h = tt
+names_made_two sh r s lsn held ds es NoMemory is more h = tt
+names_made_two sh r s lsn held ds es (BadPage b) is more h = elim h [
+  | inl first ↦ or_first (is_among (touched sh r) b) (is_among (touched sh s) b) (touched_one sh r ds b is first.0)
+  | inr second ↦ or_true (is_among (touched sh r) b) (is_among (touched sh s) b) (touched_one sh s es b more second.0)
+]
 
 -- of the blocks of two records those of each
 

@@ -47,6 +47,10 @@ pub record Settled (blocks : List ℕ) (old new : List (ℕ × Frame)) : Type 0 
 pub record AreUpTo (upto : ℕ) (held : List (ℕ × Frame)) : Type 0 where
   pub at : (d : ℕ) → IfSome (frame_at held d) (λ f. lsn_of f.page ≤ upto)
 
+-- no page in a dirty frame was
+pub record AreDirtyUpTo (upto : ℕ) (held : List (ℕ × Frame)) : Type 0 where
+  pub at : (d : ℕ) → IfSome (frame_at held d) (λ f. f.dirty ≡ true → lsn_of f.page ≤ upto)
+
 -- what is written of each of these pages reads as the page again
 pub record ReadBack (sh : Shape) (image : ℕ → Page) : Type 0 where
   pub spelled : (d : ℕ) → has_page sh d ≡ true → HasSpelling (image d)

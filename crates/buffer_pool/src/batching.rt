@@ -6,7 +6,7 @@ ghost use Rattle.std.specs.Ordering.{nat_cmp};
 ghost use Rattle.page_store.specs.Types.{after, blocks_of, is_batch};
 ghost use Rattle.page_set.specs.declared.page.Page.{Page as ThePage};
 ghost use Rattle.buffer_pool.specs.Frames.{frame_at, HasOnlyPages, IsDirty, Shows};
-ghost use Rattle.buffer_pool.specs.Batches.{due_blocks, raw_page, AreUpTo, IsBatch, IsDueIn, ReadBack, Settled};
+ghost use Rattle.buffer_pool.specs.Batches.{due_blocks, raw_page, AreDirtyUpTo, IsBatch, IsDueIn, ReadBack, Settled};
 
 use crate::cache::{add_due, clean};
 use crate::pool::BufferPool;
@@ -35,7 +35,7 @@ impl BufferPool {
         ensures each { IfOk result (λ numbers. All (λ d. IsDueIn upto (frame_at self.now.held d)) numbers.items) }
         ensures dirty { IfOk result (λ numbers. All (λ d. IsDirty (frame_at self.now.held d)) numbers.items) }
         ensures only { OnOk result (HasOnlyPages self.now.shape self.now.held) }
-        ensures many { AreUpTo upto self.now.held → IfOk result (λ numbers. length numbers.items ≡ self.now.dirty) }
+        ensures many { AreDirtyUpTo upto self.now.held → IfOk result (λ numbers. length numbers.items ≡ self.now.dirty) }
     {
         let _count = self.frames.len();
         let mut numbers = self.all_due(upto)?;
@@ -110,7 +110,7 @@ impl BufferPool {
         ensures due { IfOk result (λ batch. All (λ d. IsDueIn upto (frame_at self.old.held d)) (blocks_of batch.items)) }
         ensures settled { IfOk result (λ batch. Settled (blocks_of batch.items) self.old.held self.new.held) }
         ensures dirty { IfOk result (λ batch. self.new.dirty + length batch.items ≡ self.old.dirty) }
-        ensures many { AreUpTo upto self.old.held → IfOk result (λ batch. length batch.items ≡ min most self.old.dirty) }
+        ensures many { AreDirtyUpTo upto self.old.held → IfOk result (λ batch. length batch.items ≡ min most self.old.dirty) }
         ensures writable { most ≤ DOUBLE_WRITE_PAGES → IfOk result (λ batch. 1 ≤ length batch.items → is_batch self.old.shape (blocks_of batch.items) ≡ true) }
         ensures shows { (pages : ℕ → List ℕ) (image : ℕ → ThePage) → Shows self.old.shape pages image self.old.held → ReadBack self.old.shape image
             → IfOk result (λ batch. Shows self.old.shape (after batch.items pages) image self.new.held) }

@@ -1,9 +1,9 @@
 // The calls of a cache that the pool is made of, at any capacity.
-ghost use Rattle.std.specs.Prelude.{◌≡◌, ◌⊎◌, ◌+◌, ◌<◌, ◌≤◌, ◌++◌, [], ◌∷◌, ℕ, List, None, true, false, IfSome, IfNone, IsSome, IsOk, IsErrOf, is_some, OnOk, OnErr, length, nat_eq, if◌then◌else◌};
+ghost use Rattle.std.specs.Prelude.{◌≡◌, ◌⊎◌, ◌+◌, ◌<◌, ◌≤◌, ◌++◌, [], ◌∷◌, ℕ, List, None, true, false, IfErr, IfSome, IfNone, IsSome, IsOk, IsErrOf, is_some, OnOk, OnErr, length, nat_eq, if◌then◌else◌};
 ghost use Rattle.std.specs.Map.{remove_entry, set_value};
 ghost use Rattle.lru.specs.LruCache.{promoted};
 ghost use Rattle.disk_model.specs.Types.{Causes, Untouched};
-ghost use Rattle.page_store.specs.Types.{IsStore};
+ghost use Rattle.page_store.specs.Types.{IsStore, Names};
 ghost use Rattle.buffer_pool.specs.Frames.{frame_at, dirty_count, dirty_frame, clean_frame, has_page as is_page, IsClean, IsDirty, IsSpelled, IsWritten, Keeps, KeepsFrames, SameDirty};
 ghost use Rattle.buffer_pool.specs.Reading.{IsFetching, IsSpelledIn};
 ghost use Rattle.buffer_pool.specs.Batches.{due_blocks, Settled};
@@ -145,6 +145,7 @@ pub(crate) fn bring<D: Disk>(
     requires { dirty_count frames.old.entries < frames.old.cap }
     ensures page { (pages : ℕ → List ℕ) → IsStore D.meaning disk.old store.old pages → IsFetching store.old block (IsSpelled block (pages block)) (frame_at frames.old.entries block) result }
     ensures found { D.meaning.told disk.old → IsFetching store.old block (IsSpelledIn block (D.meaning.files disk.old).data_bytes) (frame_at frames.old.entries block) result }
+    ensures names { IfErr result (Names (λ b. b ≡ block)) }
     ensures hit { IsSome (frame_at frames.old.entries block) → disk.new ≡ disk.old }
     ensures moved { IsSome (frame_at frames.old.entries block) → frames.new.entries ≡ promoted (nat_eq block) frames.old.entries }
     ensures brought { frame_at frames.old.entries block ≡ None → OnOk result (Brought frames.old.cap block frames.old.entries frames.new.entries) }

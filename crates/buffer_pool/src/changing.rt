@@ -1,18 +1,19 @@
 // Changes of pages by redo records: made beside the frames first, and put in once the records stand in the log.
-ghost use Rattle.std.specs.Prelude.{◌≡◌, ◌+◌, ◌-◌, ◌^◌, ◌<◌, ◌≤◌, ◌++◌, ◌∷◌, [], ℕ, List, None, Some, false, suc, length, cond, if◌then◌else◌, option_copied, IfOk, IfErr, IsSome, IsErrOf, OnOk};
+ghost use Rattle.std.specs.Prelude.{◌≡◌, ◌+◌, ◌-◌, ◌^◌, ◌<◌, ◌≤◌, ◌++◌, ◌∷◌, [], ℕ, List, None, Some, true, false, suc, length, cond, if◌then◌else◌, option_copied, IfOk, IfErr, IsSome, IsErrOf, OnOk};
 ghost use Rattle.seg_words.specs.Types.{TXN_TABLE_BLOCK};
 ghost use Rattle.disk_model.specs.Types.{Causes};
 ghost use Rattle.redo_record.specs.declared.record.Record.{Record as TheRecord};
 ghost use Rattle.redo_record.specs.declared.record.Record.TheVariants.{Commit};
 ghost use Rattle.redo_record.specs.declared.transaction.CommitRecord.{CommitRecord as TheCommit};
-ghost use Rattle.page_store.specs.Types.{IsStore};
+ghost use Rattle.page_store.specs.Types.{IsStore, Names};
 ghost use Rattle.page_set.specs.declared.page.Page.{Page as ThePage};
 ghost use Rattle.page_set.specs.Changes.{changed_page, Fits};
+ghost use Rattle.page_set.specs.Among.{is_among};
 ghost use Rattle.page_set.specs.Folded.{touched_once};
 ghost use Rattle.buffer_pool.specs.Frames.{dirty_frame, frame_at, framed, weight, HasPages, KeepsFrames, Shows};
 ghost use Rattle.buffer_pool.specs.Looks.{Looks};
 ghost use Rattle.buffer_pool.specs.Reading.{WhyNotFetched};
-ghost use Rattle.buffer_pool.specs.Preparing.{changed_at, redone_all, with_records, AreFramed, HaveFrames, Installed, IsPreparing, Leads, LeadsTo};
+ghost use Rattle.buffer_pool.specs.Preparing.{any_touches, changed_at, made, redone_all, with_records, AreFramed, HaveFrames, Installed, IsPreparing, Leads, LeadsTo};
 
 use crate::cache::change;
 use crate::changed::{Changed, NewPage};
@@ -58,6 +59,7 @@ impl BufferPool {
         ensures has { OnOk result (AreFramed self.old.shape blocks.now self.new.held) }
         ensures stays { KeepsFrames self.old.held self.new.held }
         ensures why { (pages : ℕ → List ℕ) → IsStore D.meaning disk.old self.old.shape pages → IfErr result (WhyNotFetched self.old.shape pages self.old.held blocks.now) }
+        ensures names { IfErr result (Names (λ b. is_among blocks.now b ≡ true)) }
         ensures cause { Causes D.meaning disk.old disk.new (IsErrOf result PageFault.DeviceFault) }
     {
         match blocks {
@@ -82,6 +84,7 @@ impl BufferPool {
         ensures looks { Looks D.meaning disk.old disk.new self.old self.new }
         ensures has { OnOk result (AreFramed self.old.shape blocks.now self.new.held) }
         ensures why { (pages : ℕ → List ℕ) → IsStore D.meaning disk.old self.old.shape pages → IfErr result (WhyNotFetched self.old.shape pages self.old.held blocks.now) }
+        ensures names { IfErr result (Names (λ b. is_among blocks.now b ≡ true)) }
         ensures cause { Causes D.meaning disk.old disk.new (IsErrOf result PageFault.DeviceFault) }
     {
         self.reserve(blocks.len());
@@ -106,6 +109,8 @@ impl BufferPool {
             → IfOk result (Leads self.old.shape R (with_records rec.now None R)) }
         ensures answers { (pages : ℕ → List ℕ) (image : ℕ → ThePage) → IsStore D.meaning disk.old self.old.shape pages → Shows self.old.shape pages image self.old.held
             → IsPreparing self.old.shape rec.now None lsn pages self.old.held image result }
+        ensures made { IfOk result (λ changed. changed ≡ made rec.now lsn [] self.new.held (touched_once self.old.shape rec.now)) }
+        ensures names { IfErr result (Names (λ b. any_touches self.old.shape rec.now None b ≡ true)) }
         ensures cause { Causes D.meaning disk.old disk.new (IsErrOf result PageFault.DeviceFault) }
     {
         let shape = self.shape();
@@ -140,6 +145,7 @@ impl BufferPool {
             → IfOk result (Leads self.old.shape R (with_records first.now (Some second.now) R)) }
         ensures answers { (pages : ℕ → List ℕ) (image : ℕ → ThePage) → IsStore D.meaning disk.old self.old.shape pages → Shows self.old.shape pages image self.old.held
             → IsPreparing self.old.shape first.now (Some second.now) lsn pages self.old.held image result }
+        ensures names { IfErr result (Names (λ b. any_touches self.old.shape first.now (Some second.now) b ≡ true)) }
         ensures cause { Causes D.meaning disk.old disk.new (IsErrOf result PageFault.DeviceFault) }
     {
         let shape = self.shape();
@@ -178,6 +184,8 @@ impl BufferPool {
             → IfOk result (Leads self.old.shape R (with_records first.now (option_copied second.entry) R)) }
         ensures answers { (pages : ℕ → List ℕ) (image : ℕ → ThePage) → IsStore D.meaning disk.old self.old.shape pages → Shows self.old.shape pages image self.old.held
             → IsPreparing self.old.shape first.now (option_copied second.entry) lsn pages self.old.held image result }
+        ensures made { option_copied second.entry ≡ None → IfOk result (λ changed. changed ≡ made first.now lsn [] self.new.held (touched_once self.old.shape first.now)) }
+        ensures names { IfErr result (Names (λ b. any_touches self.old.shape first.now (option_copied second.entry) b ≡ true)) }
         ensures cause { Causes D.meaning disk.old disk.new (IsErrOf result PageFault.DeviceFault) }
     {
         match second {

@@ -1,10 +1,11 @@
 // A pool, and how pages come into its frames.
-ghost use Rattle.std.specs.Prelude.{◌≡◌, ◌+◌, ◌≤◌, ◌∷◌, [], ℕ, List, None, true, IfOk, IsSome, IsErrOf, OnErr, OnOk, length};
+ghost use Rattle.std.specs.Prelude.{◌≡◌, ◌+◌, ◌≤◌, ◌∷◌, [], ℕ, List, None, true, IfErr, IfOk, IsSome, IsErrOf, OnErr, OnOk, length};
 ghost use Rattle.seg_words.specs.Types.{TXN_TABLE_BLOCK};
 ghost use Rattle.disk_model.specs.Types.{Causes, Untouched};
-ghost use Rattle.page_store.specs.Types.{IsStore};
+ghost use Rattle.page_store.specs.Types.{IsStore, Names};
 ghost use Rattle.page_set.specs.declared.page.Page.{Page};
 ghost use Rattle.buffer_pool.specs.Frames.{dirty_count, frame_at, has_page as is_page, in_file, page_over, HasOnlyPages, IsSpelled, Keeps, KeepsFrames, SameDirty, Shows};
+ghost use Rattle.buffer_pool.specs.Batches.{AreDirtyUpTo};
 ghost use Rattle.buffer_pool.specs.Looks.{Looks};
 ghost use Rattle.buffer_pool.specs.Recent.{behind, Gives, Moves};
 ghost use Rattle.buffer_pool.specs.Reading.{IsFetching, IsReading, IsSpelledIn};
@@ -61,6 +62,8 @@ impl BufferPool {
         ensures found { D.meaning.told disk.old → IsReading store TXN_TABLE_BLOCK (IsSpelledIn TXN_TABLE_BLOCK (D.meaning.files disk.old).data_bytes) (λ pool. pool.dirty ≡ 0) result }
         ensures shape { IfOk result (λ pool. pool.shape ≡ store) }
         ensures dirty { IfOk result (λ pool. pool.dirty ≡ 0) }
+        ensures clean { IfOk result (λ pool. AreDirtyUpTo 0 pool.held) }
+        ensures names { IfErr result (Names (λ b. b ≡ TXN_TABLE_BLOCK)) }
         ensures cause { Causes D.meaning disk.old disk.new (IsErrOf result PageFault.DeviceFault) }
         ensures untouched { Untouched D.meaning disk.old disk.new }
         ensures reads { D.meaning.told disk.old → D.meaning.log_reads disk.new ≡ D.meaning.log_reads disk.old }
@@ -130,6 +133,7 @@ impl BufferPool {
         ensures looks { Looks D.meaning disk.old disk.new self.old self.new }
         ensures page { (pages : ℕ → List ℕ) → IsStore D.meaning disk.old self.old.shape pages → IsFetching self.old.shape dba (IsSpelled dba (pages dba)) (frame_at self.old.held dba) result }
         ensures found { D.meaning.told disk.old → IsFetching self.old.shape dba (IsSpelledIn dba (D.meaning.files disk.old).data_bytes) (frame_at self.old.held dba) result }
+        ensures names { IfErr result (Names (λ b. b ≡ dba)) }
         ensures hit { IsSome (frame_at self.old.held dba) → disk.new ≡ disk.old }
         ensures has { OnOk result (IsSome (frame_at self.new.held dba)) }
         ensures there { OnOk result (is_page self.old.shape dba ≡ true) }

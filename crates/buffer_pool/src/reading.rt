@@ -1,7 +1,7 @@
 // Reading the page of a block.
-ghost use Rattle.std.specs.Prelude.{◌≡◌, ℕ, List, true, IsErrOf, OnOk};
+ghost use Rattle.std.specs.Prelude.{◌≡◌, ℕ, List, true, IfErr, IsErrOf, OnOk};
 ghost use Rattle.disk_model.specs.Types.{Causes, Untouched};
-ghost use Rattle.page_store.specs.Types.{IsStore, block};
+ghost use Rattle.page_store.specs.Types.{IsStore, Names, block};
 ghost use Rattle.page_set.specs.Spelled.{meaning_of};
 ghost use Rattle.buffer_pool.specs.Frames.{has_page as is_page, in_file, IsSpelled};
 ghost use Rattle.buffer_pool.specs.Reading.{IsReading, IsSpelledIn};
@@ -24,6 +24,7 @@ pub(crate) fn read_page<D: Disk>(
     ensures page { (pages : ℕ → List ℕ) → IsStore D.meaning disk.old store.old pages → IsReading store.old dba (IsSpelled dba (pages dba)) (λ page. page ≡ in_file pages dba) result }
     ensures found { D.meaning.told disk.old → IsReading store.old dba (IsSpelledIn dba (D.meaning.files disk.old).data_bytes) (λ page. page ≡ meaning_of dba (block dba (D.meaning.files disk.old).data_bytes)) result }
     ensures has { OnOk result (is_page store.old dba ≡ true) }
+    ensures names { IfErr result (Names (λ b. b ≡ dba)) }
     ensures same { store.new ≡ store.old }
     ensures cause { Causes D.meaning disk.old disk.new (IsErrOf result PageFault.DeviceFault) }
     ensures untouched { Untouched D.meaning disk.old disk.new }

@@ -1,11 +1,12 @@
 -- What batches leave of a data file whose pages are folds.
-use Rattle.std.proofs.Common.{◌≡◌, ℕ, suc, ◌≤◌, Bool, true, false, ◌||◌, nat_eq, cond, List, [], ◌∷◌, length, take, Option, Some, None, refl, sym, ap, subst, arith, ◌∙◌}
+use Rattle.std.proofs.Common.{◌≡◌, ℕ, suc, ◌<◌, ◌≤◌, inl, inr, Bool, true, false, ◌||◌, nat_eq, cond, List, [], ◌∷◌, length, take, Option, Some, None, refl, sym, ap, subst, arith, ◌∙◌}
 use Rattle.std.specs.List.{All, list_any}
 use Rattle.std.proofs.lemmas.Bool.{true≢false, eqb-true}
 use Rattle.seg_words.specs.Types.{Shape}
+use Rattle.seg_words.proofs.Lemmas.{cases_lt}
 use Rattle.redo_record.specs.declared.record.Record.{Record}
-use Rattle.redo_model.specs.Lists.{Extends}
-use Rattle.redo_laws.proofs.lists.Prefixes.{extends_length, prefix_longer}
+use Rattle.redo_model.specs.Lists.{prefix, Extends}
+use Rattle.redo_laws.proofs.lists.Prefixes.{extends_length, prefix_longer, prefix_size, prefix_twice}
 use Rattle.page_store.specs.declared.page.RawPage.{RawPage}
 use Rattle.page_store.specs.Types.{after, blocks_of}
 use Rattle.page_set.specs.declared.page.Page.{Page}
@@ -21,7 +22,7 @@ use Rattle.buffer_pool.proofs.Batched.{blocks_raw, page_in_raw}
 use Rattle.pool_laws.specs.Reached.{IsReached}
 use Rattle.pool_laws.specs.Folds.{AreFolded}
 use Rattle.pool_laws.proofs.Redoing.{new_reached}
-use Rattle.pool_laws.proofs.Written.{written_reached}
+use Rattle.pool_laws.proofs.Written.{steady, written_reached}
 
 means : (d : ℕ) (bytes : List ℕ) (p : Page) → HasSpelling p → dba_of p ≡ d → bytes ≡ spelling_of p → meaning_of d bytes ≡ p
 means d bytes p fits at is = ap (meaning_of d) is ∙ ap (λ (n : ℕ). meaning_of n (spelling_of p)) (sym at) ∙ meaning_again p fits
@@ -51,6 +52,41 @@ folds_stay sh Q R m pages e le f = record {
   reached = λ d has. longer sh Q R m d (in_file pages d) e le (f.reached d has);
   spelled = f.spelled;
 }
+
+-- a page that was written with the first n records at most is a fold of those
+fewer : (sh : Shape) (R : List Record) (m n d : ℕ) (p : Page) → m ≤ n → n ≤ length R → lsn_of p ≤ n → IsReached sh R m d p → IsReached sh (prefix R n) m d p
+fewer sh R m n d p le few upto reached =
+    let long : length (prefix R n) ≡ n = prefix_size R n few in
+    record {
+      most = omega (arith, long, upto);
+      older = λ l. reached.older l ∙ ap (λ (X : List Record). page_of sh X d) (sym (prefix_twice R m n le));
+      newer = λ l. reached.newer l ∙ ap (λ (X : List Record). page_of sh X d) (sym (prefix_twice R (lsn_of p) n upto));
+    }
+
+pub folds_have_fewer : (sh : Shape) (R : List Record) (m n : ℕ) (pages : ℕ → List ℕ) → m ≤ n → n ≤ length R → ((d : ℕ) → has_page sh d ≡ true → lsn_of (in_file pages d) ≤ n) → AreFolded sh R m pages → AreFolded sh (prefix R n) m pages
+folds_have_fewer sh R m n pages le few upto f = record {
+  reached = λ d has. fewer sh R m n d (in_file pages d) le few (upto d has) (f.reached d has);
+  spelled = f.spelled;
+}
+
+-- since the record that its LSN names a page has stayed, so it has as many records of the first ones as one likes
+back_to : (sh : Shape) (R : List Record) (k m d : ℕ) (p : Page) → k ≤ m → IsReached sh R m d p → IsReached sh R k d p
+back_to sh R k m d p le reached = record {
+  most = reached.most;
+  older = λ l. since k le l (omega (arith, l, le));
+  newer = λ l. elim (cases_lt m (lsn_of p)) [
+    | inl lt ↦ reached.newer lt
+    | inr ge ↦ since (lsn_of p) ge (omega arith) ge
+  ];
+}
+  where
+    since : (n : ℕ) → n ≤ m → lsn_of p ≤ n → lsn_of p ≤ m → p ≡ page_of sh (prefix R n) d
+    since n upto few older =
+        let is : p ≡ page_of sh (prefix R m) d = reached.older older in
+        is ∙ steady sh (prefix R m) d n (subst (λ (q : Page). lsn_of q ≤ n) is few) ∙ ap (λ (X : List Record). page_of sh X d) (prefix_twice R n m upto)
+
+pub folds_reach_back : (sh : Shape) (R : List Record) (k m : ℕ) (pages : ℕ → List ℕ) → k ≤ m → AreFolded sh R m pages → AreFolded sh R k pages
+folds_reach_back sh R k m pages le f = record { reached = λ d has. back_to sh R k m d (in_file pages d) le (f.reached d has); spelled = f.spelled }
 
 any_of : (P : ℕ → Type 0) (ns : List ℕ) (d : ℕ) → All P ns → list_any (λ b. nat_eq b d) ns ≡ true → P d
 any_of P [] d all y = absurd (true≢false (sym y))

@@ -15,7 +15,7 @@ use Rattle.pool_laws.specs.Reached.{IsReached}
 use Rattle.pool_laws.proofs.Plain.{lsn_or_same}
 
 -- since the record that its LSN names a page has stayed
-steady : (sh : Shape) (R : List Record) (d m : ℕ) → lsn_of (page_of sh R d) ≤ m → page_of sh R d ≡ page_of sh (prefix R m) d
+pub steady : (sh : Shape) (R : List Record) (d m : ℕ) → lsn_of (page_of sh R d) ≤ m → page_of sh R d ≡ page_of sh (prefix R m) d
 steady sh [] d m le = refl
 steady sh (r ∷ R) d m le = elim (cases_Bool (ltb (length R) m)) [
   | inl y ↦ rw y refl

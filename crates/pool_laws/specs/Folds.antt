@@ -3,10 +3,11 @@ use Rattle.std.specs.Prelude.{◌≡◌, ℕ, ◌≤◌, true, List, length}
 use Rattle.std.specs.List.{All}
 use Rattle.seg_words.specs.Types.{Shape}
 use Rattle.redo_record.specs.declared.record.Record.{Record}
-use Rattle.redo_model.specs.Lists.{Extends}
+use Rattle.redo_model.specs.Lists.{prefix, Extends}
 use Rattle.page_store.specs.declared.page.RawPage.{RawPage}
 use Rattle.page_store.specs.Types.{after, blocks_of}
 use Rattle.page_set.specs.declared.page.Page.TheVariants.{Zero}
+use Rattle.page_set.specs.Pages.{lsn_of}
 use Rattle.page_set.specs.Spelled.{spelling_of}
 use Rattle.page_set.specs.Folded.{page_of}
 use Rattle.buffer_pool.specs.declared.frame.Frame.{Frame}
@@ -24,6 +25,14 @@ NewFilesAreFolded = (sh : Shape) (R : List Record) (pages : ℕ → List ℕ) �
 
 abbrev pub FoldsStay : Type 0
 FoldsStay = (sh : Shape) (Q R : List Record) (m : ℕ) (pages : ℕ → List ℕ) → Extends Q R → m ≤ length Q → AreFolded sh Q m pages → AreFolded sh R m pages
+
+-- the log may lack records that no page of the file has
+abbrev pub FoldsHaveFewer : Type 0
+FoldsHaveFewer = (sh : Shape) (R : List Record) (m n : ℕ) (pages : ℕ → List ℕ) → m ≤ n → n ≤ length R → ((d : ℕ) → has_page sh d ≡ true → lsn_of (in_file pages d) ≤ n) → AreFolded sh R m pages → AreFolded sh (prefix R n) m pages
+
+-- pages that have the first m records have the first k of them
+abbrev pub FoldsReachBack : Type 0
+FoldsReachBack = (sh : Shape) (R : List Record) (k m : ℕ) (pages : ℕ → List ℕ) → k ≤ m → AreFolded sh R m pages → AreFolded sh R k pages
 
 -- Q are the log's records, R all, after which the pool shows the pages. No page of the batch has a record that Q lacks.
 abbrev pub BatchesKeepFolds : Type 0

@@ -1,6 +1,6 @@
 // Laws of pages that are older than the list of records.
 ghost use Rattle.pool_laws.specs.Reached.{AllAreReached, NewPagesAreReached, ReachedPagesStay, RecordsAreRedone, WrittenPagesAreReached};
-ghost use Rattle.pool_laws.specs.Folds.{BatchesKeepFolds, FoldsStay, NewFilesAreFolded};
+ghost use Rattle.pool_laws.specs.Folds.{BatchesKeepFolds, FoldsHaveFewer, FoldsReachBack, FoldsStay, NewFilesAreFolded};
 
 /// A data file of zeros has come as far as no record.
 #[tactic(auto, using(crate::proofs::Redoing::new_reached))]
@@ -41,6 +41,16 @@ pub fn new_files_are_folded()
 /// The pages of a data file are folds of the log's records also when the log has more.
 pub fn folds_stay()
     ensures { FoldsStay }
+{}
+
+/// They are folds of the log's first records where no page has one behind those.
+pub fn folds_have_fewer()
+    ensures { FoldsHaveFewer }
+{}
+
+/// Where each page has the first m records, it has the first k of them, for any k up to m.
+pub fn folds_reach_back()
+    ensures { FoldsReachBack }
 {}
 
 /// A batch that is taken of the pages after all records, up to what the log has, leaves a data file whose pages are folds of the

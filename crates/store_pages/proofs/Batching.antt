@@ -22,7 +22,7 @@ use Rattle.page_set.proofs.LsnLaw.{lsns_tell}
 use Rattle.page_set.proofs.ReadAgain.{meaning_again}
 use Rattle.buffer_pool.specs.declared.frame.Frame.{Frame}
 use Rattle.buffer_pool.specs.Frames.{frame_at, framed, has_page, in_file, page_over, HasOnlyPages, IsShown, IsSpelled, IsWritten, Pool, Shows}
-use Rattle.buffer_pool.specs.Batches.{raw_page, AreUpTo, IsBatch, IsDueIn, ReadBack}
+use Rattle.buffer_pool.specs.Batches.{raw_page, AreDirtyUpTo, IsBatch, IsDueIn, ReadBack}
 use Rattle.buffer_pool.proofs.Batched.{blocks_raw, page_in_raw}
 use Rattle.pool_laws.specs.Reached.{AreReached, IsReached}
 use Rattle.pool_laws.specs.Folds.{AreFolded}
@@ -149,11 +149,11 @@ no_pages (p ∷ ps) h = absurd (omega (arith, h))
 
 -- ---- how far the pages have come
 
-framed_up : (d upto : ℕ) (o : Option Frame) (bytes : List ℕ) (p : Page) → (IsSome o → IsShown d o bytes p × (lsn_of p ≤ upto)) → IfSome o (λ f. lsn_of f.page ≤ upto)
+framed_up : (d upto : ℕ) (o : Option Frame) (bytes : List ℕ) (p : Page) → (IsSome o → IsShown d o bytes p × (lsn_of p ≤ upto)) → IfSome o (λ f. f.dirty ≡ true → lsn_of f.page ≤ upto)
 framed_up d upto None bytes p shown = tt
-framed_up d upto (Some f) bytes p shown = let k = shown refl in subst (λ (q : Page). lsn_of q ≤ upto) (sym k.0.0) k.1
+framed_up d upto (Some f) bytes p shown = λ dirty. let k = shown refl in subst (λ (q : Page). lsn_of q ≤ upto) (sym k.0.0) k.1
 
-pub up_to : (sh : Shape) (upto : ℕ) (file : ℕ → List ℕ) (image : ℕ → Page) (held : List (ℕ × Frame)) → Shows sh file image held → AreOlder sh upto image → HasOnlyPages sh held → AreUpTo upto held
+pub up_to : (sh : Shape) (upto : ℕ) (file : ℕ → List ℕ) (image : ℕ → Page) (held : List (ℕ × Frame)) → Shows sh file image held → AreOlder sh upto image → HasOnlyPages sh held → AreDirtyUpTo upto held
 up_to sh upto file image held shown older only = record { at = λ d. framed_up d upto (frame_at held d) (file d) (image d) (λ has. (shown.at d (only.at d has), older.at d (only.at d has))) }
 
 pub older_after : (sh : Shape) (R : List Record) (upto : ℕ) → length R ≤ upto → AreOlder sh upto (page_of sh R)

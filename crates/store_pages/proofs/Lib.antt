@@ -5,3 +5,5 @@ pub mod Fitted
 pub mod Turning
 pub mod Loops
 pub mod Opened
+pub mod Filing
+pub mod Refusing

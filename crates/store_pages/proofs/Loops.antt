@@ -8,6 +8,8 @@ use Rattle.disk_model.proofs.Lemmas.{untouched_start}
 use Rattle.redo_record.specs.declared.record.Record.{Record}
 use Rattle.redo_model.specs.Lists.{prefix, same, more, Extends}
 use Rattle.redo_laws.proofs.lists.Prefixes.{prefix_first}
+use Rattle.page_store.specs.Types.{LeavesLog}
+use Rattle.page_store.proofs.Logs.{log_started, log_then}
 use Rattle.page_store.specs.declared.fault.PageFault.{PageFault}
 use Rattle.buffer_pool.specs.Frames.{Pool}
 use Rattle.store_pages.specs.Pages.{AreReadable, KeepsFiles, LeavesFolds}
@@ -57,6 +59,7 @@ pub record SoFar {D : Type 0} (meaning : Meaning D) (d0 d : D) (xs : List Record
   pub shape : p.shape ≡ p0.shape
   pub faults : meaning.fault_count d0 ≤ meaning.fault_count d
   pub told : meaning.told d ↔ meaning.told d0
+  pub log : LeavesLog meaning d0 d
   pub reads : meaning.told d0 → meaning.log_reads d ≡ meaning.log_reads d0
   pub turns : (older : List Record) → BeginsTurns meaning d0 xs older m p0 → AreTurns meaning d0 d (reverse xs ++ older) m (m + i) p
 
@@ -67,6 +70,7 @@ module _ {D : Type 0} (meaning : Meaning D) (d0 : D) (xs : List Record) (m : ℕ
     shape = refl;
     faults = omega arith;
     told = (λ is. is, λ is. is);
+    log = log_started meaning d0;
     reads = λ told. refl;
     turns = λ older b.
         let none : m ≡ m + 0 = omega arith in
@@ -111,13 +115,14 @@ module _ {D : Type 0} (meaning : Meaning D) (d0 : D) (xs : List Record) (m : ℕ
     pub stopped_leaves : (d2 : D) → ((R : List Record) (m n : ℕ) → IsTurn meaning d1 R m n r lsn p1 → last ≡ length R → LeavesFolds meaning d1 d2 p1.shape R m) → (older : List Record) → BeginsTurns meaning d0 xs older m p0 → LeavesFolds meaning d0 d2 p0.shape (reverse xs ++ older) m
     stopped_leaves d2 leaves older b = stops_leaving older b d2 (leaves (reverse xs ++ older) m (m + i) (turn older b) (at_end older b))
 
-    pub next_redone : (d2 : D) (p2 : Pool) → p2.shape ≡ p1.shape → meaning.fault_count d1 ≤ meaning.fault_count d2 → (meaning.told d2 ↔ meaning.told d1) → (meaning.told d1 → meaning.log_reads d2 ≡ meaning.log_reads d1)
+    pub next_redone : (d2 : D) (p2 : Pool) → p2.shape ≡ p1.shape → meaning.fault_count d1 ≤ meaning.fault_count d2 → (meaning.told d2 ↔ meaning.told d1) → LeavesLog meaning d1 d2 → (meaning.told d1 → meaning.log_reads d2 ≡ meaning.log_reads d1)
         → ((R : List Record) (m n : ℕ) → IsTurn meaning d1 R m n r lsn p1 → last ≡ length R → AreTurns meaning d1 d2 R m (suc n) p2) → SoFar meaning d0 d2 xs m (i + 1) p0 p2
-    next_redone d2 p2 shape faults told reads turns = record {
+    next_redone d2 p2 shape faults told log reads turns = record {
       within = omega (arith, lt);
       shape = shape ∙ so.shape;
       faults = omega (arith, so.faults, faults);
       told = (λ x. so.told.0 (told.0 x), λ x. told.1 (so.told.1 x));
+      log = log_then meaning d0 d1 d2 so.log log;
       reads = λ x. reads (so.told.1 x) ∙ so.reads x;
       turns = λ older b. further older b d2 p2 shape (turns (reverse xs ++ older) m (m + i) (turn older b) (at_end older b));
     }

@@ -2,11 +2,12 @@
 ghost use Rattle.std.specs.Prelude.{◌≡◌, ◌↔◌, ◌≤◌, ℕ, List, length, min, IfErr, IfOk, IsErrOf, IsOk, OnOk};
 ghost use Rattle.disk_model.specs.Types.{Causes};
 ghost use Rattle.redo_record.specs.declared.record.Record.{Record as TheRecord};
+ghost use Rattle.page_store.specs.Types.{LeavesLog};
 ghost use Rattle.page_store.specs.declared.fault.PageFault.TheVariants as faults;
 ghost use Rattle.page_set.specs.declared.page.Page.{Page as ThePage};
 ghost use Rattle.page_set.specs.Folded.{page_of};
 ghost use Rattle.buffer_pool.specs.Frames.{Shows};
-ghost use Rattle.buffer_pool.specs.Batches.{AreUpTo, ReadBack};
+ghost use Rattle.buffer_pool.specs.Batches.{AreDirtyUpTo, ReadBack};
 ghost use Rattle.store_pages.specs.Pages.{AreOlder, AreWritable, HasPages, HasPut, IsOver, KeepsFiles, LeavesFolds, ShowsAfter};
 ghost use Rattle.store_pages.specs.Fitting.{IsSoundFault};
 
@@ -17,6 +18,7 @@ use page_store::{PageFault, PageStore};
 use seg_base::{DOUBLE_WRITE_PAGES, Dba, Lsn, NoMemory, TXN_TABLE_BLOCK};
 
 // Puts dirty pages into the data file.
+#[tactic(auto, using(page_store::proofs::Logs::log_then, page_store::proofs::Logs::log_looked, page_store::proofs::Logs::log_started))]
 fn put_in<D: Disk>(
     pool: &mut BufferPool,
     store: &mut PageStore,
@@ -33,11 +35,12 @@ fn put_in<D: Disk>(
     ensures files { (log : List TheRecord) (m : ℕ) (image : ℕ → ThePage) → IsOver D.meaning disk.old log m image pool.old → AreWritable pool.old.shape log m upto image
         → OnOk result (KeepsFiles D.meaning disk.old disk.new) }
     ensures put { IfOk result (λ n. HasPut most upto n pool.old pool.new) }
-    ensures many { AreUpTo upto pool.old.held → IfOk result (λ n. n ≡ min most pool.old.dirty) }
+    ensures many { AreDirtyUpTo upto pool.old.held → IfOk result (λ n. n ≡ min most pool.old.dirty) }
     ensures memory { IsErrOf result faults.NoMemory → (pool.new ≡ pool.old) × (disk.new ≡ disk.old) }
     ensures only { IfErr result IsSoundFault }
     ensures shape { pool.new.shape ≡ pool.old.shape }
     ensures same { store.new ≡ store.old }
+    ensures log { LeavesLog D.meaning disk.old disk.new }
     ensures cause { Causes D.meaning disk.old disk.new (IsErrOf result faults.DeviceFault) }
     ensures told { D.meaning.told disk.new ↔ D.meaning.told disk.old }
     ensures reads { D.meaning.log_reads disk.new ≡ D.meaning.log_reads disk.old }
@@ -57,6 +60,7 @@ fn put_in<D: Disk>(
 }
 
 /// Puts a batch into the data file where more pages are dirty than may be before one is fetched or changed.
+#[tactic(auto, using(page_store::proofs::Logs::log_then, page_store::proofs::Logs::log_looked, page_store::proofs::Logs::log_started))]
 pub(crate) fn spare_in<D: Disk>(
     pool: &mut BufferPool,
     store: &mut PageStore,
@@ -73,9 +77,12 @@ pub(crate) fn spare_in<D: Disk>(
     ensures room { OnOk result (pool.new.dirty ≤ MOST_DIRTY) }
     ensures none { pool.old.dirty ≤ MOST_DIRTY → IsOk result × (pool.new ≡ pool.old) × (disk.new ≡ disk.old) }
     ensures sound { (file : ℕ → List ℕ) (image : ℕ → ThePage) → Shows pool.old.shape file image pool.old.held → AreOlder pool.old.shape upto image → IfErr result IsSoundFault }
+    ensures whole { AreDirtyUpTo upto pool.old.held → IfErr result IsSoundFault }
+    ensures up { AreDirtyUpTo upto pool.old.held → OnOk result (AreDirtyUpTo upto pool.new.held) }
     ensures memory { IsErrOf result faults.NoMemory → (pool.new ≡ pool.old) × (disk.new ≡ disk.old) }
     ensures shape { pool.new.shape ≡ pool.old.shape }
     ensures same { store.new ≡ store.old }
+    ensures log { LeavesLog D.meaning disk.old disk.new }
     ensures cause { Causes D.meaning disk.old disk.new (IsErrOf result faults.DeviceFault) }
     ensures told { D.meaning.told disk.new ↔ D.meaning.told disk.old }
     ensures reads { D.meaning.log_reads disk.new ≡ D.meaning.log_reads disk.old }
@@ -113,6 +120,7 @@ impl StorePages {
         ensures memory { IsErrOf result faults.NoMemory → (self.new ≡ self.old) × (disk.new ≡ disk.old) }
         ensures only { IfErr result IsSoundFault }
         ensures shape { self.new.shape ≡ self.old.shape }
+        ensures log { LeavesLog D.meaning disk.old disk.new }
         ensures cause { Causes D.meaning disk.old disk.new (IsErrOf result faults.DeviceFault) }
         ensures told { D.meaning.told disk.new ↔ D.meaning.told disk.old }
         ensures reads { D.meaning.log_reads disk.new ≡ D.meaning.log_reads disk.old }
@@ -135,6 +143,7 @@ impl StorePages {
         ensures sound { (file : ℕ → List ℕ) (R : List TheRecord) → ShowsAfter file R self.old → length R ≤ upto → IfErr result IsSoundFault }
         ensures memory { IsErrOf result faults.NoMemory → (self.new ≡ self.old) × (disk.new ≡ disk.old) }
         ensures shape { self.new.shape ≡ self.old.shape }
+        ensures log { LeavesLog D.meaning disk.old disk.new }
         ensures cause { Causes D.meaning disk.old disk.new (IsErrOf result faults.DeviceFault) }
         ensures told { D.meaning.told disk.new ↔ D.meaning.told disk.old }
         ensures reads { D.meaning.log_reads disk.new ≡ D.meaning.log_reads disk.old }

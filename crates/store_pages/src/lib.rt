@@ -7,10 +7,14 @@
 #![tactic(auto)]
 
 mod batches;
+mod laws;
 mod opening;
 mod pages;
 #[cfg(test)]
 mod tests;
 
+pub use laws::{
+    folds_of_files_have_fewer, folds_of_files_reach_back, folds_of_files_stay, new_files_have_folds,
+};
 pub use opening::open;
 pub use pages::StorePages;

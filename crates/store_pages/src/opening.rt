@@ -1,9 +1,14 @@
 // The pages of a store out of its data file and its log.
-ghost use Rattle.std.specs.Prelude.{◌≡◌, ◌↔◌, ◌≤◌, ◌<◌, ◌+◌, ◌++◌, ◌^◌, ℕ, List, suc, length, reverse, IfErr, IfOk, IsErrOf, OnOk};
+ghost use Rattle.std.specs.Prelude.{◌≡◌, ◌↔◌, true, ◌≤◌, ◌<◌, ◌+◌, ◌++◌, ◌^◌, ℕ, List, suc, length, reverse, IfErr, IfOk, IsErrOf, OnOk};
 ghost use Rattle.buffer_pool.specs.declared.frame.TheConstants.{MOST_DIRTY};
 ghost use Rattle.disk_model.specs.Types.{Causes, Untouched};
 ghost use Rattle.redo_record.specs.declared.record.Record.{Record as TheRecord};
+ghost use Rattle.page_store.specs.Types.{is_sound_area, LeavesLog, Names};
 ghost use Rattle.page_store.specs.declared.fault.PageFault.TheVariants as faults;
+ghost use Rattle.page_set.specs.Among.{is_among};
+ghost use Rattle.page_set.specs.Folded.{touched};
+ghost use Rattle.buffer_pool.specs.Batches.{AreDirtyUpTo};
+ghost use Rattle.store_pages.specs.Refused.{AnyTouches, HasBlocks, IsRefused, IsUnread};
 ghost use Rattle.store_pages.specs.Pages.{HasPages, KeepsFiles, LeavesFolds};
 ghost use Rattle.store_pages.specs.Fitting.{IsSoundFault};
 ghost use Rattle.store_pages.specs.Redoing.{AreTurns, BeginsTurns, IsOpenable, IsRedone, IsTurn, WhyNotRedone};
@@ -27,6 +32,8 @@ fn redo_one<D: Disk>(
     requires { pool.old.dirty ≤ MOST_DIRTY }
     ensures done { (R : List TheRecord) (m n : ℕ) → IsTurn D.meaning disk.old R m n rec.now lsn pool.old → OnOk result (IsRedone D.meaning disk.new R m (suc n) pool.new) }
     ensures why { (R : List TheRecord) (m n : ℕ) → IsTurn D.meaning disk.old R m n rec.now lsn pool.old → IfErr result (WhyNotRedone pool.old.shape R m) }
+    ensures names { IfErr result (Names (λ b. is_among (touched pool.old.shape rec.now) b ≡ true)) }
+    ensures up { (upto : ℕ) → AreDirtyUpTo upto pool.old.held → lsn ≤ upto → OnOk result (AreDirtyUpTo upto pool.new.held) }
     ensures untouched { Untouched D.meaning disk.old disk.new }
     ensures shape { pool.new.shape ≡ pool.old.shape }
     ensures cause { Causes D.meaning disk.old disk.new (IsErrOf result faults.DeviceFault) }
@@ -42,6 +49,7 @@ fn redo_one<D: Disk>(
 }
 
 // The same, with a batch first where too many pages are dirty. All records up to `last` stand in the log.
+#[tactic(auto, using(page_store::proofs::Logs::log_then, page_store::proofs::Logs::log_looked, page_store::proofs::Logs::log_started))]
 fn redo<D: Disk>(
     pool: &mut BufferPool,
     store: &mut PageStore,
@@ -54,8 +62,11 @@ fn redo<D: Disk>(
     ensures any_moment { (R : List TheRecord) (m n : ℕ) → IsTurn D.meaning disk.old R m n rec.now lsn pool.old → last ≡ length R → LeavesFolds D.meaning disk.old disk.new pool.old.shape R m }
     ensures done { (R : List TheRecord) (m n : ℕ) → IsTurn D.meaning disk.old R m n rec.now lsn pool.old → last ≡ length R → OnOk result (AreTurns D.meaning disk.old disk.new R m (suc n) pool.new) }
     ensures why { (R : List TheRecord) (m n : ℕ) → IsTurn D.meaning disk.old R m n rec.now lsn pool.old → last ≡ length R → IfErr result (WhyNotRedone pool.old.shape R m) }
+    ensures names { AreDirtyUpTo last pool.old.held → IfErr result (Names (λ b. is_among (touched pool.old.shape rec.now) b ≡ true)) }
+    ensures up { AreDirtyUpTo last pool.old.held → lsn ≤ last → OnOk result (AreDirtyUpTo last pool.new.held) }
     ensures shape { pool.new.shape ≡ pool.old.shape }
     ensures same { store.new ≡ store.old }
+    ensures log { LeavesLog D.meaning disk.old disk.new }
     ensures cause { Causes D.meaning disk.old disk.new (IsErrOf result faults.DeviceFault) }
     ensures told { D.meaning.told disk.new ↔ D.meaning.told disk.old }
     ensures reads { D.meaning.told disk.old → D.meaning.log_reads disk.new ≡ D.meaning.log_reads disk.old }
@@ -100,8 +111,10 @@ fn redo_all<D: Disk>(
     ensures done { (older : List TheRecord) → BeginsTurns D.meaning disk.old records.now older first pool.old
         → OnOk result (AreTurns D.meaning disk.old disk.new (reverse records.now ++ older) first (length (reverse records.now ++ older)) pool.new) }
     ensures why { (older : List TheRecord) → BeginsTurns D.meaning disk.old records.now older first pool.old → IfErr result (WhyNotRedone pool.old.shape (reverse records.now ++ older) first) }
+    ensures names { AreDirtyUpTo (first + length records.now) pool.old.held → IfErr result (Names (AnyTouches pool.old.shape records.now)) }
     ensures shape { pool.new.shape ≡ pool.old.shape }
     ensures same { store.new ≡ store.old }
+    ensures log { LeavesLog D.meaning disk.old disk.new }
     ensures cause { Causes D.meaning disk.old disk.new (IsErrOf result faults.DeviceFault) }
     ensures told { D.meaning.told disk.new ↔ D.meaning.told disk.old }
     ensures reads { D.meaning.told disk.old → D.meaning.log_reads disk.new ≡ D.meaning.log_reads disk.old }
@@ -129,7 +142,9 @@ impl StorePages {
         ensures done { (older : List TheRecord) → BeginsTurns D.meaning disk.old records.now older first self.old
             → OnOk result (AreTurns D.meaning disk.old disk.new (reverse records.now ++ older) first (length (reverse records.now ++ older)) self.new) }
         ensures why { (older : List TheRecord) → BeginsTurns D.meaning disk.old records.now older first self.old → IfErr result (WhyNotRedone self.old.shape (reverse records.now ++ older) first) }
+        ensures names { AreDirtyUpTo (first + length records.now) self.old.held → IfErr result (Names (AnyTouches self.old.shape records.now)) }
         ensures shape { self.new.shape ≡ self.old.shape }
+        ensures log { LeavesLog D.meaning disk.old disk.new }
         ensures cause { Causes D.meaning disk.old disk.new (IsErrOf result faults.DeviceFault) }
         ensures told { D.meaning.told disk.new ↔ D.meaning.told disk.old }
         ensures reads { D.meaning.told disk.old → D.meaning.log_reads disk.new ≡ D.meaning.log_reads disk.old }
@@ -139,11 +154,16 @@ impl StorePages {
 }
 
 // The data file opened, and a pool over it in which no page is dirty.
+#[tactic(auto, using(page_store::proofs::Logs::log_then, page_store::proofs::Logs::log_looked, page_store::proofs::Logs::log_started))]
 fn over_file<D: Disk>(alloc: Global, disk: &mut D, shape: Shape) -> Result<StorePages, PageFault>
     ensures any_moment { (records older : List TheRecord) (m : ℕ) → IsOpenable D.meaning disk.old shape records older m → LeavesFolds D.meaning disk.old disk.new shape (reverse records ++ older) m }
     ensures done { (records older : List TheRecord) (m : ℕ) → IsOpenable D.meaning disk.old shape records older m → IfOk result (AreTurns D.meaning disk.old disk.new (reverse records ++ older) m m) }
     ensures sound { (records older : List TheRecord) (m : ℕ) → IsOpenable D.meaning disk.old shape records older m → IfErr result IsSoundFault }
+    ensures any { HasBlocks D.meaning disk.old shape → IfErr result (Names (IsUnread shape (D.meaning.files disk.old).data_bytes)) }
+    ensures area { D.meaning.told disk.old → OnOk result (is_sound_area shape (D.meaning.files disk.old).data_bytes ≡ true) }
+    ensures clean { IfOk result (λ pages. AreDirtyUpTo 0 pages.held) }
     ensures shape { IfOk result (λ pages. pages.shape ≡ shape) }
+    ensures log { LeavesLog D.meaning disk.old disk.new }
     ensures cause { Causes D.meaning disk.old disk.new (IsErrOf result faults.DeviceFault) }
     ensures told { D.meaning.told disk.new ↔ D.meaning.told disk.old }
     ensures reads { D.meaning.told disk.old → D.meaning.log_reads disk.new ≡ D.meaning.log_reads disk.old }
@@ -163,6 +183,7 @@ fn over_file<D: Disk>(alloc: Global, disk: &mut D, shape: Shape) -> Result<Store
 /// oldest first, with a batch before it where too many pages are dirty. At `Ok` the pages are the fold of all records. `BadPage`
 /// names a block that a record touches and where it doesn't fit, as the records before it leave the pages. At any moment a crash
 /// leaves a data file from which the same is opened.
+#[tactic(auto, using(page_store::proofs::Logs::log_then, page_store::proofs::Logs::log_looked, page_store::proofs::Logs::log_started))]
 pub fn open<D: Disk>(
     alloc: Global,
     disk: &mut D,
@@ -176,7 +197,10 @@ pub fn open<D: Disk>(
         → IfOk result (HasPages D.meaning disk.new (reverse records.now ++ older) first (reverse records.now ++ older)) }
     ensures files { (older : List TheRecord) → IsOpenable D.meaning disk.old shape records.now older first → OnOk result (KeepsFiles D.meaning disk.old disk.new) }
     ensures why { (older : List TheRecord) → IsOpenable D.meaning disk.old shape records.now older first → IfErr result (WhyNotRedone shape (reverse records.now ++ older) first) }
+    // Whatever the data file holds.
+    ensures any { HasBlocks D.meaning disk.old shape → IfErr result (Names (IsRefused shape (D.meaning.files disk.old).data_bytes records.now)) }
     ensures shape { IfOk result (λ pages. pages.shape ≡ shape) }
+    ensures log { LeavesLog D.meaning disk.old disk.new }
     ensures cause { Causes D.meaning disk.old disk.new (IsErrOf result faults.DeviceFault) }
     ensures told { D.meaning.told disk.new ↔ D.meaning.told disk.old }
     ensures reads { D.meaning.told disk.old → D.meaning.log_reads disk.new ≡ D.meaning.log_reads disk.old }

@@ -3,7 +3,7 @@ ghost use Rattle.std.specs.Prelude.{◌≡◌, ◌≤◌, ◌<◌, length, IfOk}
 
 use crate::{StorePages, open};
 use buffer_pool::MOST_DIRTY;
-use disk_model::{Disk, Memory};
+use disk_model::{Disk, File, Memory, Stopping, Tear};
 use page_set::lsn_of;
 use page_store::PageFault;
 use redo_record::{BeginRecord, CommitRecord, Record, ReuseRecord, decode};
@@ -104,6 +104,59 @@ fn batches_take_pages_of_least_number_and_none_of_later_records(
     let mut again = open(alloc, &mut disk, SHAPE, Lsn(2), &[])?;
     let found = numbers(&mut again, &mut disk)?;
     assert_eq!(rt; found, NUMBERS);
+    Ok(())
+}
+
+// A disk on which a batch is stopped after so many writes, and whether it was done. The catalogue's page is in the file before, and
+// the five others make 13 writes: the area's head, the copies, its gate, the places and its gate again.
+fn stopped(alloc: Global, writes: u64) -> Result<(Memory, bool), Fail> {
+    let mut memory = zeros(alloc, 64)?;
+    let mut pages = with_table(alloc, &mut memory)?;
+    pages.put_batch(&mut memory, 32, Lsn(1))?;
+    let settled = Memory::new(alloc, memory.bytes(File::Data), b"", &[])?;
+    let mut disk = Stopping::new(settled, writes);
+    let done = pages.put_batch(&mut disk, 32, Lsn(2)).is_ok();
+    Ok((disk.into_disk(), done))
+}
+
+// The LSNs in an image that a crash leaves, with the log's records redone and then as they are in the file.
+fn left(
+    alloc: Global,
+    memory: &Memory,
+    tear: Tear,
+    records: &[Record],
+) -> Result<[[u64; 7]; 2], Fail>
+    requires { length records.now < 1000 }
+{
+    let mut image = memory.crashed(memory.moment(), tear)?;
+    let mut pages = open(alloc, &mut image, SHAPE, Lsn(0), records)?;
+    let redone = numbers(&mut pages, &mut image)?;
+    let mut again = open(alloc, &mut image, SHAPE, Lsn(0), &[])?;
+    let filed = numbers(&mut again, &mut image)?;
+    Ok([redone, filed])
+}
+
+// The batch counts from the write of the open gate on, which is the seventh; a crash before its sync may lose it.
+fn filed(writes: u64, tear: Tear) -> [u64; 7] {
+    if writes > 7 || (writes == 7 && matches!(tear, Tear::New)) {
+        return NUMBERS;
+    }
+    [1, 0, 0, 0, 0, 0, 0]
+}
+
+#[test]
+fn a_crash_at_each_write_of_a_batch_leaves_all_of_it_or_none(rt: HostRuntime) -> Result<(), Fail> {
+    let alloc = rt.alloc();
+    let records = pair(alloc)?;
+    for writes in 0..15 {
+        let (memory, done) = stopped(alloc, writes)?;
+        assert_eq!(rt; done, writes == 14);
+        for tear in [Tear::Old, Tear::New] {
+            let found = left(alloc, &memory, tear, &records)?;
+            let want = [NUMBERS, filed(writes, tear)];
+            assert_eq!(rt; found, want, "{tear:?} at {writes}");
+        }
+    }
     Ok(())
 }
 

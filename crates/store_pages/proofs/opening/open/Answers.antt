@@ -1,4 +1,5 @@
-use Rattle.std.proofs.Common.{◌∙◌}
+use Rattle.std.proofs.Common.{◌+◌, ◌∙◌, arith, length}
+use Rattle.store_pages.proofs.Refusing.{dirty_more, refused_first, refused_later}
 use Rattle.store_pages.proofs.Opened.{open_leaves, opened_keeps, opened_pages, sound_opening, why_begun}
 use Rattle.store_pages.proofs.opening.open.Goals as goal
 
@@ -31,3 +32,11 @@ returns-in-Err-redo_records-clause-any_moment g c = λ older o.
 pub returns-in-Err-redo_records-clause-why : goal.returns-in-Err-redo_records-clause-why
 returns-in-Err-redo_records-clause-why g c = λ older o.
     why_begun g.D.Disk.meaning c.args.disk.now c.args.shape c.args.records.now older c.args.first o c.over_file.new.disk c.in-Ok.pages c.in-Ok.ensures.shape (c.in-Ok.ensures.done c.args.records.now older c.args.first o) c.in-Err-redo_records.fault c.in-Err-redo_records.ensures.why
+
+pub returns-in-Err-clause-any : goal.returns-in-Err-clause-any
+returns-in-Err-clause-any g c = λ has. refused_first g.D.Disk.meaning c.args.disk.now c.args.shape has c.args.records.now c.in-Err.fault (c.in-Err.ensures.any has)
+
+pub returns-in-Err-redo_records-clause-any : goal.returns-in-Err-redo_records-clause-any
+returns-in-Err-redo_records-clause-any g c = λ has.
+    refused_later g.D.Disk.meaning c.args.disk.now c.args.shape has c.args.records.now c.in-Ok.pages.shape c.in-Err-redo_records.fault c.in-Ok.ensures.shape (c.in-Ok.ensures.area has.settled.told)
+    (c.in-Err-redo_records.ensures.names (dirty_more 0 (c.args.first + length c.args.records.now) c.in-Ok.pages.held (omega arith) c.in-Ok.ensures.clean))

@@ -1,4 +1,7 @@
-use Rattle.std.proofs.Common.{Ok, Err}
+use Rattle.std.proofs.Common.{◌≡◌, true, Ok, Err}
+use Rattle.page_set.specs.Among.{is_among}
+use Rattle.page_set.specs.Folded.{touched}
+use Rattle.store_pages.proofs.Refusing.{names_then, sound_names}
 use Rattle.store_pages.proofs.Turning.{older, redone_turns, sound_why, spared, spared_leaves, why_then, writable}
 use Rattle.store_pages.proofs.opening.redo.Goals as goal
 
@@ -37,3 +40,12 @@ returns-in-Err-redo_one-clause-why g c = λ R m n t e.
     let over = c.in-Ok.ensures.done R m t.redone.image t.redone.over w in
     why_then g.D.Disk.meaning c.args.disk.now R m n c.args.rec.now c.args.lsn c.args.pool.now t c.spare_in.new.disk c.spare_in.new.pool over c.spare_in.ensures.shape (Err c.in-Err-redo_one.fault)
     (c.in-Err-redo_one.ensures.why R m n (spared g.D.Disk.meaning c.args.disk.now R m n c.args.rec.now c.args.lsn c.args.pool.now t c.spare_in.new.disk c.spare_in.new.pool over c.spare_in.ensures.shape))
+
+pub returns-in-Err-clause-names : goal.returns-in-Err-clause-names
+returns-in-Err-clause-names g c = λ up. sound_names (λ b. is_among (touched c.args.pool.now.shape c.args.rec.now) b ≡ true) c.in-Err.fault (c.in-Err.ensures.whole up)
+
+pub returns-in-Err-redo_one-clause-names : goal.returns-in-Err-redo_one-clause-names
+returns-in-Err-redo_one-clause-names g c = λ up. names_then c.args.pool.now.shape c.spare_in.new.pool.shape c.args.rec.now c.in-Err-redo_one.fault c.spare_in.ensures.shape c.in-Err-redo_one.ensures.names
+
+pub returns-in-Ok-redo_one-clause-up : goal.returns-in-Ok-redo_one-clause-up
+returns-in-Ok-redo_one-clause-up g c = λ up le. c.in-Ok-redo_one.ensures.up c.args.last (c.in-Ok.ensures.up up) le

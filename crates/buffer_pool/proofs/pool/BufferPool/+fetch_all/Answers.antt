@@ -1,6 +1,6 @@
 use Rattle.std.proofs.Common.{◌-◌, length}
 use Rattle.buffer_pool.proofs.Stores.{looks_start, looks_then}
-use Rattle.buffer_pool.proofs.Gathered.{why_head, why_rest}
+use Rattle.buffer_pool.proofs.Gathered.{names_head, names_rest, why_head, why_rest}
 use Rattle.buffer_pool.proofs.pool.BufferPool.+fetch_all.Goals as goal
 
 pub returns-in-empty-clause-looks : goal.returns-in-empty-clause-looks
@@ -21,3 +21,9 @@ returns-in-Err-clause-why g t c = λ pages s.
 pub returns-in-Err-fetch_all-clause-why : goal.returns-in-Err-fetch_all-clause-why
 returns-in-Err-fetch_all-clause-why g t c = λ pages s.
     why_rest g.D.Disk.meaning c.args.disk.now c.fetch.new.disk c.args.self.now c.fetch.new.self c.fetch.ensures.looks pages s c.args.blocks.now (length c.args.blocks.now - 1) c.in-Err-fetch_all.fault c.in-Err-fetch_all.ensures.why
+
+pub returns-in-Err-clause-names : goal.returns-in-Err-clause-names
+returns-in-Err-clause-names g t c = names_head c.args.blocks.now c.block-item.result c.in-Err.fault c.in-len1-up.len_at_least c.block-item.is c.in-Err.ensures.names
+
+pub returns-in-Err-fetch_all-clause-names : goal.returns-in-Err-fetch_all-clause-names
+returns-in-Err-fetch_all-clause-names g t c = names_rest c.args.blocks.now (length c.args.blocks.now - 1) c.in-Err-fetch_all.fault c.in-Err-fetch_all.ensures.names

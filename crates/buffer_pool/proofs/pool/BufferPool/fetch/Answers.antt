@@ -1,5 +1,6 @@
-use Rattle.std.proofs.Common.{◌≡◌, arith, ℕ, nat_eq, None, IsSome, OnOk, OnErr, refl, sym, subst, ◌∙◌}
+use Rattle.std.proofs.Common.{◌≡◌, arith, ℕ, nat_eq, None, IfErr, IsSome, OnOk, OnErr, refl, sym, subst, ◌∙◌}
 use Rattle.lru.specs.LruCache.{promoted}
+use Rattle.page_store.specs.Types.{Names}
 use Rattle.buffer_pool.specs.Recent.{Brought, Gives}
 use Rattle.std.proofs.lemmas.Grind.{common_steps}
 use Rattle.seg_words.specs.Types.{TXN_TABLE_BLOCK}
@@ -96,3 +97,6 @@ pub returns-then-block-eq-TXN_TABLE_BLOCK-clause-moves : goal.returns-then-block
 returns-then-block-eq-TXN_TABLE_BLOCK-clause-moves g c =
     let d = c.args.dba in let is = sym c.dba.view_is ∙ c.if-block-eq-TXN_TABLE_BLOCK.true in
     moves_first d c.args.self.now.held is (rw (← c.self.view_is) (front_some d TXN_TABLE_BLOCK c.self.inside.first c.self.inside.frames.entries is))
+
+pub returns-clause-names : goal.returns-clause-names
+returns-clause-names g c = subst (λ (j : ℕ). IfErr c.bring.result (Names (λ b. b ≡ j))) c.dba.view_is c.bring.ensures.names

@@ -5,7 +5,7 @@ use Rattle.page_set.specs.Spelled.{meaning_of}
 use Rattle.seg_words.specs.Types.{TXN_TABLE_BLOCK}
 use Rattle.buffer_pool.specs.Frames.{in_file, IsSpelled, Pool, Shows}
 use Rattle.buffer_pool.specs.Reading.{IsSpelledIn}
-use Rattle.buffer_pool.proofs.Fetches.{reading_err, shows_new}
+use Rattle.buffer_pool.proofs.Fetches.{clean_first, reading_err, shows_new}
 use Rattle.buffer_pool.proofs.pool.BufferPool.new.Goals as goal
 
 pub returns-in-Err-clause-shows : goal.returns-in-Err-clause-shows
@@ -18,3 +18,6 @@ pub returns-clause-shows : goal.returns-clause-shows
 returns-clause-shows g c = λ pages s.
     let is = c.in-Ok.ensures.page pages s in
     (is.0, is.1, rw c.in-Ok-new.ensures (shows_new c.args.store TXN_TABLE_BLOCK pages c.in-Ok.page is))
+
+pub returns-clause-clean : goal.returns-clause-clean
+returns-clause-clean g c = rw c.in-Ok-new.ensures (clean_first TXN_TABLE_BLOCK c.in-Ok.page)

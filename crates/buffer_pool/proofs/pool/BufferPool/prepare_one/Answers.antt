@@ -1,8 +1,9 @@
-use Rattle.std.proofs.Common.{None, ap, ◌∙◌}
+use Rattle.std.proofs.Common.{[], None, ap, ◌∙◌}
 use Rattle.seg_words.specs.Types.{Shape}
 use Rattle.page_set.specs.Folded.{page_of, touched_once}
+use Rattle.buffer_pool.specs.Preparing.{made}
 use Rattle.buffer_pool.proofs.Stores.{looks_start}
-use Rattle.buffer_pool.proofs.Made.{fresh}
+use Rattle.buffer_pool.proofs.Made.{fresh, names_made, names_one}
 use Rattle.buffer_pool.proofs.Prepared.{framed_now, one_has, one_applies, one_ready, one_not_fetched, one_not_made}
 use Rattle.buffer_pool.proofs.pool.BufferPool.prepare_one.Goals as goal
 
@@ -45,3 +46,12 @@ returns-clause-answers g c = λ pages image store s.
     one_not_made g.D.Disk.meaning c.args.disk.now c.gather.new.disk c.args.self.now c.gather.new.self c.gather.ensures.looks pages image store s c.args.rec.now c.args.lsn c.deref-2.result.now
     (c.deref-2.ensures.value ∙ c.in-Ok.ensures.list ∙ ap (λ (sh : Shape). touched_once sh c.args.rec.now) c.shape-shape.ensures) c.in-Err-made_one.fault
     (rw c.deref-2.ensures.value (rw c.deref.ensures.value at c.in-Ok-gather.ensures.has)) c.in-Err-made_one.ensures.why
+
+pub returns-in-Err-gather-clause-names : goal.returns-in-Err-gather-clause-names
+returns-in-Err-gather-clause-names g c = names_one c.args.self.now.shape c.args.rec.now c.deref.result.now c.in-Err-gather.fault (c.deref.ensures.value ∙ c.in-Ok.ensures.list ∙ ap (λ (sh : Shape). touched_once sh c.args.rec.now) c.shape-shape.ensures) c.in-Err-gather.ensures.names
+
+pub returns-in-Ok-made_one-clause-made : goal.returns-in-Ok-made_one-clause-made
+returns-in-Ok-made_one-clause-made g c = c.in-Ok-made_one.ensures.done ∙ ap (made c.args.rec.now c.args.lsn [] c.gather.new.self.held) (c.deref-2.ensures.value ∙ c.in-Ok.ensures.list ∙ ap (λ (sh : Shape). touched_once sh c.args.rec.now) c.shape-shape.ensures)
+
+pub returns-clause-names : goal.returns-clause-names
+returns-clause-names g c = names_made c.args.self.now.shape c.args.rec.now c.args.lsn c.gather.new.self.held c.deref-2.result.now c.in-Err-made_one.fault (c.deref-2.ensures.value ∙ c.in-Ok.ensures.list ∙ ap (λ (sh : Shape). touched_once sh c.args.rec.now) c.shape-shape.ensures) c.in-Err-made_one.ensures.why

@@ -2,7 +2,7 @@ use Rattle.std.proofs.Common.{Some, ap, ◌∙◌}
 use Rattle.seg_words.specs.Types.{Shape}
 use Rattle.page_set.specs.Folded.{page_of, touched_once}
 use Rattle.buffer_pool.proofs.Stores.{looks_start}
-use Rattle.buffer_pool.proofs.Made.{fresh}
+use Rattle.buffer_pool.proofs.Made.{fresh, names_made_two, names_two}
 use Rattle.buffer_pool.proofs.Prepared.{left_now, two_have, two_apply, two_ready, two_not_fetched, two_not_made}
 use Rattle.buffer_pool.proofs.pool.BufferPool.prepare_two.Goals as goal
 
@@ -57,3 +57,13 @@ returns-clause-answers g c = λ pages image store s.
     let more = c.in-Ok.ensures.second ∙ ap (λ (sh : Shape). touched_once sh c.args.second.now) c.shape-shape.ensures in
     two_not_made g.D.Disk.meaning c.args.disk.now c.gather.new.disk c.args.self.now c.gather.new.self c.gather.ensures.looks pages image store s c.args.first.now c.args.second.now c.args.lsn
     b.first.items b.second.items b.all.items is more c.in-Ok.ensures.all c.in-Err-made_two.fault (rw c.deref.ensures.value at c.in-Ok-gather.ensures.has) c.in-Err-made_two.ensures.why
+
+pub returns-in-Err-gather-clause-names : goal.returns-in-Err-gather-clause-names
+returns-in-Err-gather-clause-names g c =
+    let b = c.in-Ok.blocks in
+    names_two c.args.self.now.shape c.args.first.now c.args.second.now b.first.items b.second.items b.all.items c.in-Err-gather.fault (c.in-Ok.ensures.first ∙ ap (λ (sh : Shape). touched_once sh c.args.first.now) c.shape-shape.ensures) (c.in-Ok.ensures.second ∙ ap (λ (sh : Shape). touched_once sh c.args.second.now) c.shape-shape.ensures) c.in-Ok.ensures.all (rw c.deref.ensures.value at c.in-Err-gather.ensures.names)
+
+pub returns-clause-names : goal.returns-clause-names
+returns-clause-names g c =
+    let b = c.in-Ok.blocks in
+    names_made_two c.args.self.now.shape c.args.first.now c.args.second.now c.args.lsn c.gather.new.self.held b.first.items b.second.items c.in-Err-made_two.fault (c.in-Ok.ensures.first ∙ ap (λ (sh : Shape). touched_once sh c.args.first.now) c.shape-shape.ensures) (c.in-Ok.ensures.second ∙ ap (λ (sh : Shape). touched_once sh c.args.second.now) c.shape-shape.ensures) c.in-Err-made_two.ensures.why

@@ -12,3 +12,6 @@ returns-clause-done g c = rw (← c.self.view_is) c.redo_all.ensures.done
 
 pub returns-clause-why : goal.returns-clause-why
 returns-clause-why g c = rw (← c.self.view_is) c.redo_all.ensures.why
+
+pub returns-clause-names : goal.returns-clause-names
+returns-clause-names g c = rw (← c.self.view_is) c.redo_all.ensures.names

@@ -1,0 +1,5 @@
+use Rattle.store_pages.proofs.Filing.{folds_of_files_have_fewer}
+use Rattle.store_pages.proofs.laws.folds_of_files_have_fewer.Goals as goal
+
+pub returns : goal.returns
+returns c = folds_of_files_have_fewer

@@ -1,5 +1,5 @@
 -- What a batch takes, and what it leaves.
-use Rattle.std.proofs.Common.{◌≤◌, ◌≡◌, ℕ, zero, suc, ◌+◌, ◌<◌, Bool, true, false, not, ◌&&◌, List, [], ◌∷◌, ◌++◌, Option, Some, None, IsSome, is_some, refl, sym, ap, subst, arith, cond, nat_eq, nat_le, length, map, take, ◌∙◌, get_or, ◌||◌, option_map, append_assoc, add-one}
+use Rattle.std.proofs.Common.{◌≤◌, ◌≡◌, ℕ, zero, suc, ◌+◌, ◌<◌, Bool, true, false, not, ◌&&◌, List, [], ◌∷◌, ◌++◌, Option, Some, None, IsSome, is_some, refl, sym, ap, subst, arith, cond, nat_eq, nat_le, length, map, take, ◌∙◌, get_or, ◌||◌, option_map, append_assoc, add-one, IfSome}
 use Rattle.std.specs.List.{All, AllByRecursion, list_all, list_any, IsDistinct}
 use Rattle.std.specs.List.Sorted.{IsPermutation}
 use Rattle.std.specs.Map.{keys_of, set_value, values_of}

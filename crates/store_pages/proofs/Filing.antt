@@ -1,12 +1,13 @@
 -- Data files whose pages are folds: new ones, and those whose log has more records or fewer.
-use Rattle.std.proofs.Common.{◌≡◌, ℕ, ◌+◌, ◌-◌, ◌*◌, ◌<◌, ◌≤◌, min, Bool, true, false, not, ◌&&◌, ◌||◌, eqb, nat_lt, nat_le, if◌then◌else◌, List, length, take, drop, replicate, slice_index, refl, sym, ap, subst, arith, ◌∙◌, ltb-true, le-leb}
+use Rattle.std.proofs.Common.{◌≡◌, ℕ, ◌+◌, ◌-◌, ◌*◌, ◌<◌, ◌≤◌, min, Bool, true, false, not, ◌&&◌, ◌||◌, ◌==◌, eqb, nat_lt, nat_le, if◌then◌else◌, List, length, take, drop, replicate, slice_index, refl, sym, ap, subst, arith, ◌∙◌, ltb-true, le-leb}
 use Rattle.std.proofs.lemmas.Bool.{true≢false}
 use Rattle.std.proofs.lemmas.List.{drop-replicate, drop-take, length-take, take-replicate, take-take}
 use Rattle.seg_words.specs.Types.{Shape, BLOCK_SIZE, DOUBLE_WRITE_BLOCK, is_shape}
 use Rattle.seg_words.proofs.Lemmas.{length-replicate}
 use Rattle.redo_record.specs.declared.record.Record.{Record}
 use Rattle.redo_model.specs.Lists.{prefix, Extends}
-use Rattle.page_store.specs.Types.{AREA_END, block, gate, is_batch, is_place, head_blocks, is_sound_area}
+use Rattle.page_store.specs.declared.area.TheConstants.{AREA_END}
+use Rattle.page_store.specs.Types.{block, copies_of, gate, is_batch, is_place, head_blocks, is_sound_area, page_in}
 use Rattle.page_store.specs.Pages.{page_of as filed}
 use Rattle.page_store.proofs.Batch.{limits}
 use Rattle.page_set.specs.declared.page.Page.{Page}
@@ -67,9 +68,9 @@ module _ (sh : Shape) (bytes : List ℕ) (shape : is_shape sh ≡ true) (zero : 
       both false g b h k = absurd (true≢false (sym h))
 
   zero_page : (d : ℕ) → has_page sh d ≡ true → filed bytes d ≡ spelling_of (Zero d)
-  zero_page d has = closed_page (gate bytes == 1) unopened ∙ zero_block d (within sh d (page_place sh d has))
+  zero_page d has = closed_page (gate bytes == 1) unopened (page_in (copies_of bytes) d (block d bytes)) (block d bytes) ∙ zero_block d (within sh d (page_place sh d has))
     where
-      closed_page : {A : Type 0} (g : Bool) → g ≡ false → (x y : A) → (if g then x else y) ≡ y
+      closed_page : (g : Bool) → g ≡ false → (x y : List ℕ) → (if g then x else y) ≡ y
       closed_page g h x y = rw h refl
 
   pub new_files_have_folds_of : (log : List Record) → HasFolds sh log 0 bytes

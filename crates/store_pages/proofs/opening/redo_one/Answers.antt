@@ -1,3 +1,4 @@
+use Rattle.std.proofs.Common.{refl}
 use Rattle.page_set.specs.Folded.{touched_once}
 use Rattle.store_pages.proofs.Refusing.{dirty_redone}
 use Rattle.store_pages.proofs.Turning.{turned, why_not_redone}

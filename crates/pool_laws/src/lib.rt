@@ -5,6 +5,7 @@
 mod laws;
 
 pub use laws::{
-    all_are_reached, batches_keep_folds, folds_have_fewer, folds_reach_back, folds_stay, new_files_are_folded, new_pages_are_reached,
-    reached_pages_stay, records_are_redone, written_pages_are_reached,
+    all_are_reached, batches_keep_folds, folds_have_fewer, folds_reach_back, folds_stay,
+    new_files_are_folded, new_pages_are_reached, reached_pages_stay, records_are_redone,
+    written_pages_are_reached,
 };

@@ -4,7 +4,7 @@ use Rattle.std.specs.List.{All, list_any}
 use Rattle.std.proofs.lemmas.Bool.{true≢false, eqb-true}
 use Rattle.seg_words.specs.Types.{Shape}
 use Rattle.seg_words.proofs.Lemmas.{cases_order}
-use Rattle.disk_model.specs.Types.{Files, Meaning, Leaves, OnlyFile}
+use Rattle.disk_model.specs.Types.{Meaning, Leaves, OnlyFile}
 use Rattle.disk_model.specs.declared.disk.File.TheVariants.{Data}
 use Rattle.disk_model.proofs.Lemmas.{leaves_so}
 use Rattle.redo_record.specs.declared.record.Record.{Record}
@@ -21,7 +21,7 @@ use Rattle.page_set.specs.Folded.{page_of}
 use Rattle.page_set.proofs.LsnLaw.{lsns_tell}
 use Rattle.page_set.proofs.ReadAgain.{meaning_again}
 use Rattle.buffer_pool.specs.declared.frame.Frame.{Frame}
-use Rattle.buffer_pool.specs.Frames.{frame_at, framed, has_page, in_file, page_over, HasOnlyPages, IsShown, IsSpelled, IsWritten, Pool, Shows}
+use Rattle.buffer_pool.specs.Frames.{frame_at, framed, has_page, page_over, HasOnlyPages, IsShown, IsSpelled, IsWritten, Pool, Shows}
 use Rattle.buffer_pool.specs.Batches.{raw_page, AreDirtyUpTo, IsBatch, IsDueIn, ReadBack}
 use Rattle.buffer_pool.proofs.Batched.{blocks_raw, page_in_raw}
 use Rattle.pool_laws.specs.Reached.{AreReached, IsReached}

@@ -1,5 +1,5 @@
 -- Data files whose pages are folds: new ones, and those whose log has more records or fewer.
-use Rattle.std.proofs.Common.{◌≡◌, ℕ, ◌+◌, ◌-◌, ◌*◌, ◌<◌, ◌≤◌, min, Bool, true, false, not, ◌&&◌, ◌||◌, ◌==◌, eqb, nat_lt, nat_le, if◌then◌else◌, List, length, take, drop, replicate, slice_index, refl, sym, ap, subst, arith, ◌∙◌, ltb-true, le-leb}
+use Rattle.std.proofs.Common.{◌≡◌, ℕ, ◌+◌, ◌-◌, ◌*◌, ◌<◌, ◌≤◌, Bool, true, false, not, ◌&&◌, ◌||◌, ◌==◌, eqb, nat_lt, nat_le, if◌then◌else◌, List, length, take, drop, replicate, slice_index, refl, sym, ap, subst, arith, ◌∙◌, ltb-true, le-leb}
 use Rattle.std.proofs.lemmas.Bool.{true≢false}
 use Rattle.std.proofs.lemmas.List.{drop-replicate, drop-take, length-take, take-replicate, take-take}
 use Rattle.seg_words.specs.Types.{Shape, BLOCK_SIZE, DOUBLE_WRITE_BLOCK, is_shape}
@@ -10,12 +10,10 @@ use Rattle.page_store.specs.declared.area.TheConstants.{AREA_END}
 use Rattle.page_store.specs.Types.{block, copies_of, gate, is_batch, is_place, head_blocks, is_sound_area, page_in}
 use Rattle.page_store.specs.Pages.{page_of as filed}
 use Rattle.page_store.proofs.Batch.{limits}
-use Rattle.page_set.specs.declared.page.Page.{Page}
 use Rattle.page_set.specs.declared.page.Page.TheVariants.{Zero}
 use Rattle.page_set.specs.Pages.{lsn_of}
 use Rattle.page_set.specs.Spelled.{meaning_of, spelling_of}
-use Rattle.buffer_pool.specs.Frames.{has_page, in_file}
-use Rattle.pool_laws.specs.Folds.{AreFolded}
+use Rattle.buffer_pool.specs.Frames.{has_page}
 use Rattle.pool_laws.proofs.Folds.{folds_have_fewer, folds_reach_back, folds_stay, new_folded}
 use Rattle.store_pages.specs.Pages.{HasFolds}
 use Rattle.store_pages.specs.Filed.{AreFiledUpTo}

@@ -1,5 +1,5 @@
 -- Whether records fit on the pages that they touch, out of what the pool answers.
-use Rattle.std.proofs.Common.{◌≡◌, ◌⊎◌, ℕ, suc, ◌+◌, ◌<◌, Bool, true, false, ◌&&◌, ◌||◌, nat_lt, cond, List, ◌∷◌, length, Option, Some, None, Result, Ok, Err, OnOk, IfErr, refl, sym, ap, subst, arith, ◌∙◌, inl, inr, ⊎_elim, lt-ltb}
+use Rattle.std.proofs.Common.{◌≡◌, ◌⊎◌, ℕ, suc, ◌+◌, Bool, true, false, ◌&&◌, ◌||◌, nat_lt, cond, List, ◌∷◌, length, Option, Some, None, Result, Ok, Err, OnOk, IfErr, refl, sym, ap, subst, arith, ◌∙◌, inl, inr, ⊎_elim, lt-ltb}
 use Rattle.std.proofs.lemmas.Bool.{true≢false}
 use Rattle.seg_words.specs.Types.{Shape}
 use Rattle.disk_model.specs.Types.{Meaning}
@@ -17,9 +17,9 @@ use Rattle.buffer_pool.specs.declared.changed.NewPage.{NewPage}
 use Rattle.buffer_pool.specs.declared.frame.Frame.{Frame}
 use Rattle.buffer_pool.specs.Frames.{frame_at, has_page, IsSpelled, Pool, Shows}
 use Rattle.buffer_pool.specs.Reading.{IsFetching}
-use Rattle.buffer_pool.specs.Preparing.{any_touches, redone, IsPreparing, IsReady}
+use Rattle.buffer_pool.specs.Preparing.{redone, IsPreparing}
 use Rattle.store_pages.specs.Pages.{HasPages}
-use Rattle.store_pages.specs.Fitting.{AreBothFit, FitsAll, FitsOn, WhyNotAdded, WhyNotBoth, WhyNotFetched}
+use Rattle.store_pages.specs.Fitting.{AreBothFit, FitsAll, WhyNotAdded, WhyNotBoth, WhyNotFetched}
 
 either_true : (a b : Bool) → (a || b) ≡ true → (a ≡ true) ⊎ (b ≡ true)
 either_true true b h = inl refl

@@ -1,5 +1,5 @@
 -- The page that a frame lends, and that of the transaction table with a Commit.
-use Rattle.std.proofs.Common.{◌≡◌, ℕ, suc, true, Bool, false, List, ◌∷◌, length, Option, Some, None, IsSome, sym, subst, ◌∙◌}
+use Rattle.std.proofs.Common.{◌≡◌, ℕ, suc, true, List, ◌∷◌, length, Option, Some, None, IsSome, sym, subst}
 use Rattle.std.proofs.lemmas.Bool.{true≢false}
 use Rattle.seg_words.specs.Types.{Shape, TXN_TABLE_BLOCK}
 use Rattle.redo_record.specs.declared.record.Record.{Record}

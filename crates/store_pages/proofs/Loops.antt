@@ -1,6 +1,6 @@
 -- The records of a log redone one after the other.
 use Rattle.std.proofs.Common.{◌≡◌, ◌↔◌, ℕ, suc, ◌+◌, ◌<◌, ◌≤◌, List, [], ◌∷◌, ◌++◌, length, get_or, take, drop, reverse, refl, sym, ap, subst, arith, ◌∙◌, append_assoc, length-append}
-use Rattle.std.proofs.lemmas.List.{length-take, take_all, take-append-drop}
+use Rattle.std.proofs.lemmas.List.{length-take, take-append-drop}
 use Rattle.seg_words.proofs.Lemmas.{take_more, length-reverse, reverse-append}
 use Rattle.seg_words.specs.Types.{Shape}
 use Rattle.disk_model.specs.Types.{Meaning}
@@ -12,7 +12,7 @@ use Rattle.page_store.specs.Types.{LeavesLog}
 use Rattle.page_store.proofs.Logs.{log_started, log_then}
 use Rattle.page_store.specs.declared.fault.PageFault.{PageFault}
 use Rattle.buffer_pool.specs.Frames.{Pool}
-use Rattle.store_pages.specs.Pages.{AreReadable, KeepsFiles, LeavesFolds}
+use Rattle.store_pages.specs.Pages.{AreReadable, LeavesFolds}
 use Rattle.store_pages.specs.Redoing.{AreTurns, BeginsTurns, IsRedone, IsTurn, WhyNotRedone}
 use Rattle.store_pages.proofs.Standing.{folds_looked, folds_then, keeps_start, keeps_then}
 

@@ -1,5 +1,5 @@
 -- A data file opened, and the pages that the redo of its log leaves.
-use Rattle.std.proofs.Common.{◌≡◌, ℕ, ◌<◌, ◌≤◌, Bool, true, false, ◌&&◌, nat_lt, List, ◌++◌, length, reverse, Ok, Err, refl, sym, ap, subst, arith, ◌∙◌, lt-ltb, length-append}
+use Rattle.std.proofs.Common.{◌≡◌, ℕ, Bool, true, false, ◌&&◌, nat_lt, List, ◌++◌, length, reverse, Ok, Err, refl, sym, subst, arith, ◌∙◌, lt-ltb, length-append}
 use Rattle.std.proofs.lemmas.Bool.{true≢false}
 use Rattle.seg_words.specs.Types.{Shape, TXN_TABLE_BLOCK, is_shape}
 use Rattle.disk_model.specs.Types.{Meaning, Leaves, OnlyFile, IsSettled, Untouched}
@@ -12,7 +12,6 @@ use Rattle.page_store.specs.declared.fault.PageFault.{PageFault}
 use Rattle.page_store.specs.declared.fault.PageFault.TheVariants.{DeviceFault, BadPage, NoMemory}
 use Rattle.page_store.specs.Types.{Answers, AsLong, IsStore, Leads}
 use Rattle.page_store.specs.Pages.{HasPages as IsFileOf}
-use Rattle.page_set.specs.Folded.{page_of}
 use Rattle.page_set.specs.declared.page.Page.{Page}
 use Rattle.buffer_pool.specs.Frames.{frame_at, has_page, in_file, IsShown, IsSpelled, Pool, Shows}
 use Rattle.buffer_pool.specs.Reading.{IsReading}

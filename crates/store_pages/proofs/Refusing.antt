@@ -1,9 +1,9 @@
 -- Records redone on the pages of a data file that may hold anything.
-use Rattle.std.proofs.Common.{◌≡◌, ◌⊎◌, inl, inr, ℕ, zero, suc, ◌+◌, ◌*◌, ◌<◌, ◌≤◌, Bool, true, false, ◌||◌, nat_eq, nat_lt, eqb, cond, List, [], ◌∷◌, ◌++◌, length, get_or, Option, Some, None, Result, Ok, Err, IfErr, IfSome, refl, sym, ap, subst, arith, ◌∙◌, ⊎_elim, ltb-true}
+use Rattle.std.proofs.Common.{◌≡◌, inl, inr, ℕ, zero, suc, ◌<◌, ◌≤◌, Bool, true, false, ◌||◌, nat_eq, nat_lt, eqb, cond, List, [], ◌∷◌, ◌++◌, length, get_or, Option, Some, None, Err, IfSome, refl, sym, ap, subst, arith, ⊎_elim, ltb-true}
 use Rattle.std.specs.List.{list_any}
 use Rattle.std.specs.Option.{option_map}
 use Rattle.std.proofs.lemmas.Bool.{true≢false}
-use Rattle.seg_words.specs.Types.{AllByRecursion, Shape, BLOCK_SIZE, DOUBLE_WRITE_BLOCK, TXN_TABLE_BLOCK}
+use Rattle.seg_words.specs.Types.{AllByRecursion, Shape, TXN_TABLE_BLOCK}
 use Rattle.disk_model.specs.Types.{Meaning, IsSettled}
 use Rattle.disk_model.specs.declared.disk.File.TheVariants.{Data}
 use Rattle.redo_record.specs.declared.record.Record.{Record}
@@ -15,10 +15,10 @@ use Rattle.page_set.specs.declared.page.Page.{Page}
 use Rattle.page_set.specs.Pages.{lsn_of}
 use Rattle.page_set.specs.Changes.{changed_page}
 use Rattle.page_set.specs.Among.{is_among}
-use Rattle.page_set.specs.Folded.{touched, touched_once}
+use Rattle.page_set.specs.Folded.{touched}
 use Rattle.buffer_pool.specs.declared.changed.NewPage.{NewPage}
 use Rattle.buffer_pool.specs.declared.frame.Frame.{Frame}
-use Rattle.buffer_pool.specs.Frames.{dirty_frame, frame_at, framed, has_page, in_file, IsSpelled, Pool, SameDirty, Shows}
+use Rattle.buffer_pool.specs.Frames.{dirty_frame, frame_at, framed, in_file, IsSpelled, Pool, SameDirty, Shows}
 use Rattle.buffer_pool.specs.Batches.{cleaned, AreDirtyUpTo, Settled}
 use Rattle.buffer_pool.specs.Preparing.{frame_with, made, one_made, over_in, Installed}
 use Rattle.buffer_pool.specs.Reading.{IsReading}

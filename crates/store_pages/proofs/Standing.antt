@@ -1,7 +1,7 @@
 -- What the frames show over a disk that was only read, and what such a disk leaves.
-use Rattle.std.proofs.Common.{◌≡◌, ℕ, ◌≤◌, List, length, refl, ap, subst, sym, arith, ◌∙◌, ⊎_elim}
+use Rattle.std.proofs.Common.{ℕ, List, length, refl, ap, subst, sym, arith, ◌∙◌, ⊎_elim}
 use Rattle.seg_words.specs.Types.{Shape}
-use Rattle.disk_model.specs.Types.{Files, Meaning, Leaves, Now, OnlyFile, Untouched}
+use Rattle.disk_model.specs.Types.{Files, Meaning, Untouched}
 use Rattle.disk_model.specs.declared.disk.File.TheVariants.{Data}
 use Rattle.disk_model.proofs.Lemmas.{leaves_looked, then_only}
 use Rattle.redo_record.specs.declared.record.Record.{Record}

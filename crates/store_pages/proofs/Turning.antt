@@ -1,5 +1,5 @@
 -- One record of the log redone.
-use Rattle.std.proofs.Common.{◌≡◌, ℕ, suc, ◌<◌, ◌≤◌, nat_lt, List, [], ◌∷◌, ◌++◌, length, None, Result, Ok, Err, OnOk, IfErr, refl, sym, ap, subst, arith, ◌∙◌, ltb-true}
+use Rattle.std.proofs.Common.{◌≡◌, ℕ, suc, ◌<◌, List, [], ◌∷◌, ◌++◌, length, None, Result, Ok, Err, OnOk, IfErr, refl, sym, ap, subst, arith, ◌∙◌, ltb-true}
 use Rattle.seg_words.specs.Types.{Shape}
 use Rattle.disk_model.specs.Types.{Meaning, Untouched}
 use Rattle.redo_record.specs.declared.record.Record.{Record}

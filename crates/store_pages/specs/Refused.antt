@@ -5,8 +5,6 @@ use Rattle.seg_words.specs.Types.{Shape, BLOCK_SIZE, DOUBLE_WRITE_BLOCK, TXN_TAB
 use Rattle.disk_model.specs.Types.{Meaning, IsSettled}
 use Rattle.disk_model.specs.declared.disk.File.TheVariants.{Data}
 use Rattle.redo_record.specs.declared.record.Record.{Record}
-use Rattle.page_store.specs.declared.fault.PageFault.{PageFault}
-use Rattle.page_store.specs.declared.fault.PageFault.TheVariants.{DeviceFault, BadPage, NoMemory}
 use Rattle.page_store.specs.Pages.{is_sound_area, page_of as filed}
 use Rattle.page_set.specs.Among.{is_among}
 use Rattle.page_set.specs.Folded.{touched}

@@ -1,4 +1,4 @@
-use Rattle.std.proofs.Common.{arith, refl}
+use Rattle.std.proofs.Common.{arith}
 use Rattle.disk_model.proofs.Lemmas.{untouched_start}
 use Rattle.store_pages.proofs.Batching.{room_left, up_to}
 use Rattle.store_pages.proofs.Standing.{folds_looked, keeps_start}

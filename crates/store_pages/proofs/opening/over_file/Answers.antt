@@ -1,4 +1,3 @@
-use Rattle.disk_model.specs.Types.{Meaning}
 use Rattle.page_store.specs.Types.{Leads}
 use Rattle.store_pages.proofs.Opened.{opening_leaves, opening_sound, reading_leaves, reading_sound, reading_turns}
 use Rattle.store_pages.proofs.Refusing.{unread_table, unsound_names}

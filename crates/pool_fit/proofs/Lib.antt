@@ -1,0 +1,2 @@
+pub mod TouchedLaw
+pub mod FitsLaw

@@ -199,6 +199,7 @@ pub fn open<D: Disk>(
     ensures why { (older : List TheRecord) → IsOpenable D.meaning disk.old shape records.now older first → IfErr result (WhyNotRedone shape (reverse records.now ++ older) first) }
     // Whatever the data file holds.
     ensures any { HasBlocks D.meaning disk.old shape → IfErr result (Names (IsRefused shape (D.meaning.files disk.old).data_bytes records.now)) }
+    ensures area { D.meaning.told disk.old → OnOk result (is_sound_area shape (D.meaning.files disk.old).data_bytes ≡ true) }
     ensures shape { IfOk result (λ pages. pages.shape ≡ shape) }
     ensures log { LeavesLog D.meaning disk.old disk.new }
     ensures cause { Causes D.meaning disk.old disk.new (IsErrOf result faults.DeviceFault) }

@@ -7,7 +7,7 @@ ghost use Rattle.redo_record.specs.declared.record.Record.TheVariants.{Commit};
 ghost use Rattle.page_store.specs.declared.fault.PageFault.TheVariants as faults;
 ghost use Rattle.page_set.specs.Changes.{Fits};
 ghost use Rattle.page_set.specs.Folded.{page_of};
-ghost use Rattle.buffer_pool.specs.Frames.{frame_at, has_page as is_page};
+ghost use Rattle.buffer_pool.specs.Frames.{dirty_count, frame_at, has_page as is_page};
 ghost use Rattle.buffer_pool.specs.Looks.{Looks};
 ghost use Rattle.buffer_pool.specs.Preparing.{HaveFrames, Leads};
 ghost use Rattle.store_pages.specs.Pages.{HasPages, IsFetched, ShowsAfter};
@@ -62,7 +62,8 @@ impl StorePages {
 
     /// How many pages are dirty.
     pub fn dirty(&self) -> u16
-        ensures { result ≡ self.now.dirty }
+        ensures value { result ≡ self.now.dirty }
+        ensures count { result ≡ dirty_count self.now.held }
     {
         self.pool.dirty()
     }

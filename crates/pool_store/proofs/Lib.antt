@@ -1,0 +1,15 @@
+pub mod Additions
+pub mod Batching
+pub mod Committing
+pub mod Counting
+pub mod Fetching
+pub mod KeptBad
+pub mod LogRead
+pub mod Looking
+pub mod Lookups
+pub mod Numbers
+pub mod Prepared
+pub mod Surviving
+pub mod Takes
+pub mod Taking
+pub mod UndoLent

@@ -1,0 +1,5 @@
+use Rattle.std.proofs.Common.{[]}
+use Rattle.pool_store.proofs.putting.put_one.Goals as goal
+
+pub returns-clause-list : goal.returns-clause-list
+returns-clause-list c = λ groups R h s. c.in_ok-lsn.ensures.added groups [] R h s

@@ -33,7 +33,7 @@ use Rattle.session_world.specs.declared.fault.RunFault.TheVariants as stops
 use Rattle.assm.specs.Status.{status_of_open}
 use Rattle.assm.specs.declared.status.Status.{Status}
 use Rattle.assm.specs.declared.status.Status.TheVariants as the
-use Rattle.assm.specs.Top.{StartsSound, Ran, RanLines, RanPrinted}
+use Rattle.assm.specs.Top.{StartsSound, Ran, RanLines, RanPrinted, RanWhole}
 use Rattle.assm.specs.Ends.{Begins, RunsTo, EndsAs, IsBlockByte, StopsAs}
 
 -- a session of an inactive list has no transaction
@@ -69,7 +69,7 @@ module _ {D : Type 0} (meaning : Meaning D) where
       (subst (λ (x : Shape). Always meaning since b.disk (λ m image. IsLeft x (meaning.files b.first).data_bytes R (needed m) image)) s h.each))
 
   module _ (since : ℕ) (data_bytes : List ℕ) (sh : Shape) (R : List Record) (disk disk' : D) (loan : GName) (loaded : Read D) (a b : Held D) (script : Script) (old new : Option (List ℕ)) (from : a ≡ with_disk disk loan loaded) (to : b.disk ≡ disk') (begins : Begins meaning since data_bytes sh R disk loaded) (keeps : KeepsLoan meaning a b) where
-    stands : IsTrue meaning (closed R) a
+    pub stands : IsTrue meaning (closed R) a
     stands = subst (IsTrue meaning (closed R)) (sym from) (begins.opened loan).list
 
     pub no_one : NoneActive (closed R)
@@ -134,19 +134,30 @@ module _ {D : Type 0} (meaning : Meaning D) where
           sound = subst (λ (S : List Record). IsSound sh S (meaning.files disk')) (all_of mine.older Q mine.part mine.enough) mine.sound;
         }
 
+    pub ran_part : (result : Result (Unit {0}) RunFault) → HasRunScript meaning script (closed R) a b old new result → Ran meaning since data_bytes disk' old new sh R script
+    ran_part result run = part_of result run
+
+    -- all of it ran, with the history and the records of the run
+    pub whole_of : (done : Unit {0}) (run : HasRunScript meaning script (closed R) a b old new (Ok done)) → b.fault ≡ None → (moment : ℕ) → moment ≡ meaning.clock b.disk
+        → ((since : ℕ) (needed more : ℕ → ℕ) (Q : List Record) → IsTrue meaning Q b → b.fault ≡ None → Survives meaning since needed Q b → Rises needed more moment b.log.stable → Survives meaning since more Q b)
+        → ((d : D) → meaning.told d → Now meaning d (meaning.files d)) → (w : RanWhole meaning since data_bytes disk' old new sh R script) × (w.ran.history ≡ run.ran.run.history) × (w.ran.records ≡ run.ran.run.records)
+    whole_of done run unspent moment is rises as_read = (
+      record {
+        ran = part_of (Ok done) run;
+        all = turns_are (Ok done) (turns_of script run.rounds) run.ran.run.records run.ran.run.history run.ran.turns;
+        printed = run.ran.run.printed;
+        over = subst (λ (d : D). IsAtEnd sh script.sessions (closed R) run.ran.run.records run.ran.run.history (meaning.clock d)) to (subst (λ (s : Shape). IsAtEnd s script.sessions (closed R) run.ran.run.records run.ran.run.history (meaning.clock b.disk)) shape_is run.ran.run.over);
+        stable = all_left done run moment is unspent rises;
+        again = starts_again run.ran.run.records run.ran.run.stands unspent as_read (all_left done run moment is unspent rises);
+      },
+      refl,
+      refl,
+    )
+
     pub runs_to : (result : Result (Unit {0}) RunFault) → ((R0 : List Record) → IsTrue meaning R0 a → NoneActive R0 → HasRunScript meaning script R0 a b old new result) → OnOk result (b.fault ≡ None) → (moment : ℕ) → moment ≡ meaning.clock b.disk
         → ((since : ℕ) (needed more : ℕ → ℕ) (Q : List Record) → IsTrue meaning Q b → b.fault ≡ None → Survives meaning since needed Q b → Rises needed more moment b.log.stable → Survives meaning since more Q b)
         → ((d : D) → meaning.told d → Now meaning d (meaning.files d)) → RunsTo meaning since data_bytes disk' old new sh R script result
-    runs_to (Ok done) ran unspent moment is rises as_read =
-        let run = ran (closed R) stands no_one in
-        record {
-          ran = part_of (Ok done) run;
-          all = turns_are (Ok done) (turns_of script run.rounds) run.ran.run.records run.ran.run.history run.ran.turns;
-          printed = run.ran.run.printed;
-          over = subst (λ (d : D). IsAtEnd sh script.sessions (closed R) run.ran.run.records run.ran.run.history (meaning.clock d)) to (subst (λ (s : Shape). IsAtEnd s script.sessions (closed R) run.ran.run.records run.ran.run.history (meaning.clock b.disk)) shape_is run.ran.run.over);
-          stable = all_left done run moment is unspent rises;
-          again = starts_again run.ran.run.records run.ran.run.stands unspent as_read (all_left done run moment is unspent rises);
-        }
+    runs_to (Ok done) ran unspent moment is rises as_read = (whole_of done (ran (closed R) stands no_one) unspent moment is rises as_read).0
     runs_to (Err stops.WriteFault) ran unspent moment is rises as_read = part_of (Err stops.WriteFault) (ran (closed R) stands no_one)
     runs_to (Err (stops.Store faults.DeviceFault)) ran unspent moment is rises as_read =
         let run = ran (closed R) stands no_one in

@@ -3,3 +3,4 @@ pub mod Ending
 pub mod Made
 pub mod Asked
 pub mod Counted
+pub mod Summed

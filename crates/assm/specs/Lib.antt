@@ -3,3 +3,4 @@ pub mod Words
 pub mod Top
 pub mod Ends
 pub mod Checks
+pub mod Generates

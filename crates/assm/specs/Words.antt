@@ -1,9 +1,10 @@
 -- The words of the command line. This engine's own.
 use Rattle.seg_words.specs.Types.{MOST_BLOCKS, MOST_EXTENT_BLOCKS, MOST_UNDO_BLOCKS, Shape, is_name, is_shape}
-use Rattle.std.specs.Prelude.{◌≡◌, ℕ, true, if◌then◌else◌, List, [], ◌∷◌, Option, Some, None, codes, bytes_eq}
+use Rattle.std.specs.Prelude.{◌≡◌, ℕ, ◌-◌, ◌^◌, true, if◌then◌else◌, List, [], ◌∷◌, Option, Some, None, codes, bytes_eq}
 use Rattle.assm.specs.declared.words.Command.{Command}
-use Rattle.assm.specs.declared.words.Command.TheVariants.{Format, Run, Usage, Repair, Check}
-use Rattle.script_text.specs.Pieces.{number_of, ◌>>=◌}
+use Rattle.assm.specs.declared.words.Command.TheVariants.{Format, Run, Usage, Repair, Check, Generate}
+use Rattle.assm.specs.declared.words.TheConstants.{MOST_ROWS}
+use Rattle.script_text.specs.Pieces.{number_of, ordinal_of, ◌>>=◌}
 use Rattle.script_text.specs.Script.{Script}
 use Rattle.script_text.specs.declared.statement.Statement.{Statement}
 use Rattle.script_text.specs.declared.statement.Statement.TheVariants as asks
@@ -26,6 +27,16 @@ single word = if bytes_eq word (codes "run") then Some Run else (if bytes_eq wor
 abbrev pub of_table : List ℕ → List ℕ → Option Command
 of_table word t = if is_name t then (if bytes_eq word (codes "usage") then Some Usage else (if bytes_eq word (codes "repair") then Some Repair else None)) else None
 
+-- the script that a number below 2^32 and a count of rows ask for
+abbrev pub generate_in : List ℕ → List ℕ → Option Command
+generate_in n r = do
+  number ← number_of (2 ^ 32 - 1) n
+  rows ← ordinal_of MOST_ROWS r
+  Some (Generate number rows)
+
+abbrev pub of_three : List ℕ → List ℕ → List ℕ → Option Command
+of_three word n r = if bytes_eq word (codes "gen") then generate_in n r else None
+
 abbrev pub of_shape : List ℕ → List ℕ → List ℕ → List ℕ → Option Command
 of_shape word b e u = if bytes_eq word (codes "format") then format_in (shape_in b e u) else None
 
@@ -33,6 +44,7 @@ of_shape word b e u = if bytes_eq word (codes "format") then format_in (shape_in
 abbrev pub command_in : List (List ℕ) → Option Command
 command_in (word ∷ []) = single word
 command_in (word ∷ t ∷ []) = of_table word t
+command_in (word ∷ n ∷ r ∷ []) = of_three word n r
 command_in (word ∷ b ∷ e ∷ u ∷ []) = of_shape word b e u
 command_in words = None
 

@@ -3,6 +3,7 @@
 
 mod asking;
 mod checking;
+mod generating;
 mod making;
 mod run;
 mod status;

@@ -2,6 +2,7 @@
 // run over real files prints is the crate's stored run.
 mod rows;
 mod shrinks;
+mod sums;
 
 use crate::status::{Status, StatusLine};
 use crate::top::run_program;

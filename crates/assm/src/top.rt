@@ -7,13 +7,16 @@ ghost use Rattle.disk_model.specs.Types.{Causes, Untouched};
 ghost use Rattle.log_frame.specs.Types.{is_formatted};
 ghost use Rattle.script_text.specs.declared.statement.Statement.{Statement as TheStatement};
 ghost use Rattle.script_text.specs.Spelled.{printed};
+ghost use Rattle.script_gen.specs.Generated.{generated};
 ghost use Rattle.assm.specs.Words.{command_in, script_with, statement_in};
 ghost use Rattle.assm.specs.Top.{ScriptTells, RunTells, FormatTells, HadScript, IsBad};
 ghost use Rattle.assm.specs.Checks.{CheckTells};
+ghost use Rattle.assm.specs.Generates.{SumTells};
 ghost use Rattle.assm.specs.declared.words.Command.TheVariants as asked;
 
 use crate::asking::{run_repair, run_usage};
 use crate::checking::check_store;
+use crate::generating::run_generated;
 use crate::making::format_store;
 use crate::run::run_text;
 use crate::status::Status;
@@ -48,7 +51,7 @@ fn run_source<D: Disk, S: Source, K: Sink>(
 }
 
 /// All commands. Of these `run` alone reads the source.
-#[tactic(auto, using(crate::proofs::Told::run_no_words, crate::proofs::Told::format_no_words, crate::proofs::Told::run_bad_script, crate::proofs::Told::format_no_script))]
+#[tactic(auto, using(crate::proofs::Told::run_no_words, crate::proofs::Told::format_no_words, crate::proofs::Told::run_bad_script, crate::proofs::Told::format_no_script, crate::proofs::Summed::sum_no_words, crate::proofs::Summed::sum_no_script))]
 pub fn script_command<R: Threads + Sync, D: Disk, S: Source, K: Sink>(
     _rt: &R,
     alloc: Global,
@@ -68,6 +71,7 @@ pub fn script_command<R: Threads + Sync, D: Disk, S: Source, K: Sink>(
     ensures run { command_in (map string_bytes words.now) ≡ Some asked.Run → ScriptTells D.meaning disk.old disk.new (K.written sink.old) (K.written sink.new) (S.left source.old) result }
     ensures asks { (st : TheStatement) → statement_in (map string_bytes words.now) ≡ Some st → RunTells D.meaning disk.old disk.new (K.written sink.old) (K.written sink.new) result (printed (script_with st)) }
     ensures check { command_in (map string_bytes words.now) ≡ Some asked.Check → CheckTells D.meaning disk.old disk.new (K.written sink.old) (K.written sink.new) result }
+    ensures generate { (number rows : ℕ) → command_in (map string_bytes words.now) ≡ Some (asked.Generate number rows) → SumTells D.meaning disk.old disk.new (K.written sink.old) (K.written sink.new) result (printed (generated number rows)) }
     ensures format { (shape : TheShape) → command_in (map string_bytes words.now) ≡ Some (asked.Format shape) → FormatTells D.meaning disk.old disk.new (K.written sink.old) (K.written sink.new) shape result }
     ensures store_kept { (shape : TheShape) → command_in (map string_bytes words.now) ≡ Some (asked.Format shape) → D.meaning.told disk.old → is_formatted (D.meaning.files disk.old).log_bytes ≡ true → Untouched D.meaning disk.old disk.new }
 {
@@ -77,6 +81,7 @@ pub fn script_command<R: Threads + Sync, D: Disk, S: Source, K: Sink>(
         Some(Command::Usage) => run_usage(alloc, disk, table_in(words), sink),
         Some(Command::Repair) => run_repair(alloc, disk, table_in(words), sink),
         Some(Command::Check) => check_store(alloc, disk, sink),
+        Some(Command::Generate { number, rows }) => run_generated(alloc, disk, number, rows, sink),
         Some(Command::Format(shape)) => format_store(alloc, disk, &shape, sink),
     }
 }
@@ -102,6 +107,7 @@ pub fn run_program<R: Threads + Wait + Sync, D: Disk + Send, S: Source, K: Sink 
     ensures run { command_in (map string_bytes words.now) ≡ Some asked.Run → ScriptTells D.meaning disk.old disk.new (K.written sink.old) (K.written sink.new) (S.left source.old) result }
     ensures asks { (st : TheStatement) → statement_in (map string_bytes words.now) ≡ Some st → RunTells D.meaning disk.old disk.new (K.written sink.old) (K.written sink.new) result (printed (script_with st)) }
     ensures check { command_in (map string_bytes words.now) ≡ Some asked.Check → CheckTells D.meaning disk.old disk.new (K.written sink.old) (K.written sink.new) result }
+    ensures generate { (number rows : ℕ) → command_in (map string_bytes words.now) ≡ Some (asked.Generate number rows) → SumTells D.meaning disk.old disk.new (K.written sink.old) (K.written sink.new) result (printed (generated number rows)) }
     ensures format { (shape : TheShape) → command_in (map string_bytes words.now) ≡ Some (asked.Format shape) → FormatTells D.meaning disk.old disk.new (K.written sink.old) (K.written sink.new) shape result }
     ensures store_kept { (shape : TheShape) → command_in (map string_bytes words.now) ≡ Some (asked.Format shape) → D.meaning.told disk.old → is_formatted (D.meaning.files disk.old).log_bytes ≡ true → Untouched D.meaning disk.old disk.new }
 {

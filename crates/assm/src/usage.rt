@@ -3,7 +3,7 @@ use clap::Command;
 use std::alloc::{AllocError, Global};
 
 /// A command, and what it does.
-const COMMANDS: [(&str, &str); 5] = [
+const COMMANDS: [(&str, &str); 6] = [
     ("format", "BLOCKS EXTENT UNDO: makes a store"),
     ("run", "runs the script that standard input has"),
     ("usage", "T: tells how full the blocks of a table are"),
@@ -14,6 +14,10 @@ const COMMANDS: [(&str, &str); 5] = [
     (
         "check",
         "counts records, commits, tables and inexact blocks",
+    ),
+    (
+        "gen",
+        "NUMBER ROWS: runs the script that is made from the number, and sums it up",
     ),
 ];
 

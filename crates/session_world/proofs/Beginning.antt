@@ -12,7 +12,7 @@ use Rattle.script_text.specs.declared.statement.Statement.{Statement}
 use Rattle.script_text.specs.declared.statement.Turns.{Turns}
 use Rattle.script_text.specs.Script.{Script}
 use Rattle.history_model.specs.declared.history.HistoryItem.{HistoryItem}
-use Rattle.history_model.specs.History.{IsSession, AreInTime}
+use Rattle.history_model.specs.History.{AreInTime}
 use Rattle.session_model.specs.Sessions.{Session}
 use Rattle.session_model.specs.Worlds.{IsWorld}
 use Rattle.session_model.specs.Laws.{NoneActive, fresh}
@@ -31,8 +31,8 @@ use Rattle.session_world.specs.declared.events.Run.{Run}
 use Rattle.session_world.specs.declared.fault.RunFault.{RunFault}
 use Rattle.session_world.specs.declared.fault.RunFault.TheVariants as stops
 use Rattle.session_world.specs.Order.{after_schedule, after_rounds, AreTurns, turns_none, turns_whole}
-use Rattle.session_world.specs.Whole.{text_of, needed_by, HasRunTurns, HasRunScript}
-use Rattle.session_world.specs.Seats.{unstarted, told_at, seen_in}
+use Rattle.session_world.specs.Whole.{text_of, needed_by, HasRunTurnsOf, HasRunScript, HasRunIn}
+use Rattle.session_world.specs.Seats.{unstarted, seen_in}
 use Rattle.session_world.specs.Between.{IsFresh, IsRunAt, IsSoFar, IsIdle}
 use Rattle.session_world.specs.Rounds.{HasComeToEnd}
 use Rattle.session_world.proofs.Taken.{printed_took}
@@ -101,20 +101,20 @@ module _ {D : Type 0} (meaning : Meaning D) (script : Script) (ss : List (List S
   so_far = run_begins meaning ss R0 s before run t none (subst (λ (n : ℕ). IsFresh n run) (ap (λ (z : List (List Statement)). length z) (sym same)) fresh)
 
   -- these turns, told by the script
-  as_script : (k : ℕ) (r : Result (Unit {0}) RunFault) → HasRunTurns meaning ss R0 (after_rounds (length ss) k (after_schedule ts [])) s new before after r → HasRunScript meaning script R0 s new before after r
-  as_script k r h = record {
-    rounds = k;
-    ran = subst (λ (z : List (List Statement)). HasRunTurns meaning z R0 (after_rounds (length z) k (after_schedule script.schedule [])) s new before after r) same
-        (subst (λ (z : List Turns). HasRunTurns meaning ss R0 (after_rounds (length ss) k (after_schedule z [])) s new before after r) order h);
-  }
+  as_script : (k : ℕ) (T : List HistoryItem) (r : Result (Unit {0}) RunFault) → HasRunTurnsOf meaning ss R0 (after_rounds (length ss) k (after_schedule ts [])) s new before after T r → HasRunIn meaning script R0 s new before after T r
+  as_script k T r h =
+      let told : HasRunTurnsOf meaning script.sessions R0 (after_rounds (length script.sessions) k (after_schedule script.schedule [])) s new before after T r =
+      subst (λ (z : List (List Statement)). HasRunTurnsOf meaning z R0 (after_rounds (length z) k (after_schedule script.schedule [])) s new before after T r) same
+      (subst (λ (z : List Turns). HasRunTurnsOf meaning ss R0 (after_rounds (length ss) k (after_schedule z [])) s new before after T r) order h) in
+      record { whole = record { rounds = k; ran = told.taken }; history = told.history }
 
   -- a run that came to its end, and was closed
   pub run_whole : (r : Result (Unit {0}) RunFault) → ((Q0 Q : List Record) (called : List ℕ) (first : Held D) (b : Option (List ℕ)) → IsSoFar meaning ss Q0 Q called first s b before run → HasComeToEnd meaning ss Q0 (after_schedule ts called) first mid b after last (Ok tt))
-      → ((scripts : List (List Statement)) (Q0 : List Record) (called : List ℕ) (first : Held D) (b a : Option (List ℕ)) (u : Run) → IsIdle meaning scripts Q0 called first mid b a u → HasRunTurns meaning scripts Q0 called first new b a r) → HasRunScript meaning script R0 s new before after r
+      → ((scripts : List (List Statement)) (Q0 : List Record) (called : List ℕ) (first : Held D) (b a : Option (List ℕ)) (u : Run) → IsIdle meaning scripts Q0 called first mid b a u → HasRunTurnsOf meaning scripts Q0 called first new b a u.history r) → HasRunIn meaning script R0 s new before after last.history r
   run_whole r comes closed =
       let rest = comes R0 R0 [] s before so_far in
-      as_script rest.rounds r (closed ss R0 (after_rounds (length ss) rest.rounds (after_schedule ts [])) s before after last rest.idle)
+      as_script rest.rounds last.history r (closed ss R0 (after_rounds (length ss) rest.rounds (after_schedule ts [])) s before after last rest.idle)
 
   -- or that stopped before
-  pub run_part : (f : RunFault) → ((Q0 Q : List Record) (called : List ℕ) (first : Held D) (b : Option (List ℕ)) → IsSoFar meaning ss Q0 Q called first s b before run → HasComeToEnd meaning ss Q0 (after_schedule ts called) first new b after last (Err f)) → HasRunScript meaning script R0 s new before after (Err f)
-  run_part f comes = let stop = comes R0 R0 [] s before so_far in as_script stop.rounds (Err f) stop.stopped
+  pub run_part : (f : RunFault) → ((Q0 Q : List Record) (called : List ℕ) (first : Held D) (b : Option (List ℕ)) → IsSoFar meaning ss Q0 Q called first s b before run → HasComeToEnd meaning ss Q0 (after_schedule ts called) first new b after last (Err f)) → HasRunIn meaning script R0 s new before after last.history (Err f)
+  run_part f comes = let stop = comes R0 R0 [] s before so_far in as_script stop.rounds last.history (Err f) (record { taken = stop.stopped; history = tt })

@@ -1,6 +1,6 @@
 -- A turn of a session with its lines, and turns one after the other.
-use Rattle.std.proofs.Common.{◌≡◌, ◌⊎◌, ℕ, zero, suc, ◌+◌, ◌-◌, ◌<◌, ◌≤◌, Bool, true, false, ◌||◌, List, ◌∷◌, length, get_or, take, Option, refl, sym, ◌∙◌, ap, subst, le_trans, inl, inr, arith}
-use Rattle.std.specs.Prelude.{None, Result, Ok, Err, OnOk, IfOk}
+use Rattle.std.proofs.Common.{◌≡◌, ℕ, zero, suc, ◌+◌, ◌-◌, ◌<◌, ◌≤◌, Bool, true, false, ◌||◌, List, ◌∷◌, length, get_or, take, Option, refl, sym, ◌∙◌, ap, subst, le_trans, inl, inr, arith}
+use Rattle.std.specs.Prelude.{None, Result, Ok, Err}
 use Rattle.std.specs.Io.KnownBytes.{Appends}
 use Rattle.seg_words.proofs.Lemmas.{cases_eq}
 use Rattle.seg_words.specs.Types.{Shape}
@@ -14,9 +14,8 @@ use Rattle.history_model.specs.Legal.{IsLegal}
 use Rattle.session_model.specs.Sessions.{HasEnded}
 use Rattle.session_model.specs.Worlds.{IsWorld}
 use Rattle.session_model.proofs.Running.{worlds_run}
-use Rattle.store_core.specs.Store.{Held, IsTrue}
+use Rattle.store_core.specs.Store.{Held}
 use Rattle.store_core.specs.Survives.{Survives}
-use Rattle.store_core.specs.Causes.{IsSoundFault}
 use Rattle.store_core.specs.declared.fault.StoreFault.{StoreFault}
 use Rattle.store_core.specs.declared.fault.StoreFault.TheVariants as faults
 use Rattle.session_step.specs.declared.session.Turn.{Turn}
@@ -26,13 +25,13 @@ use Rattle.session_world.specs.declared.fault.RunFault.TheVariants as stops
 use Rattle.session_world.specs.declared.events.Run.{Run}
 use Rattle.session_step.specs.Events.{IsTurn, IsPart}
 use Rattle.session_world.specs.Order.{after_item, after_schedule, after_round, after_rounds, Precedes, precedes_same, AreTurns, turn_made, turn_passed, AreTurnsSoFar, turns_whole, turn_part}
-use Rattle.session_world.specs.Whole.{text_of, needed_by, HasRunAll, HasRunTurns, IsPrinted, IsSoundStop}
+use Rattle.session_world.specs.Whole.{text_of, needed_by, HasRunTurns, IsPrinted, IsSoundStop}
 use Rattle.session_world.specs.Telling.{HandsOutSince, HasTaken}
 use Rattle.session_world.specs.Seats.{told_at, seen_in}
 use Rattle.session_step.specs.Bindings.{row_of}
-use Rattle.session_world.specs.Between.{IsRunAt, IsSoFar, IsOn, GoesOn, IsIdle, IsPassedOver, TakesTurn}
-use Rattle.session_world.specs.Moving.{IsStill, HasMoved}
-use Rattle.session_world.specs.Rounds.{ArePassedOver, IsRound, HasTurned, HasGoneRound, IsAtRest, StopsInRounds, HasComeToEnd}
+use Rattle.session_world.specs.Between.{IsSoFar, IsOn, IsPassedOver, TakesTurn}
+use Rattle.session_world.specs.Moving.{HasMoved}
+use Rattle.session_world.specs.Rounds.{ArePassedOver, IsRound, HasTurned, HasGoneRound, IsAtRest, StopsInRounds}
 use Rattle.session_world.proofs.Taken.{taken_more, still_text, printed_before, printed_part, printed_took, appends_same}
 use Rattle.session_world.proofs.Needed.{needs_more, needs_same}
 use Rattle.session_world.proofs.Ordered.{precedes_on, item_to, item_next, item_within, schedule_none, schedule_next, schedule_within, schedule_all, round_next, round_within, rounds_next}

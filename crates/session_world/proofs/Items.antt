@@ -1,5 +1,5 @@
 -- The newest item of a list that is kept in order.
-use Rattle.std.proofs.Common.{◌≡◌, ℕ, ◌+◌, ◌-◌, ◌<◌, ◌≤◌, List, [], ◌∷◌, ◌++◌, length, reverse, take, get_or, slice_get, None, Some, Option, refl, sym, ◌∙◌, ap, subst, arith, take_all}
+use Rattle.std.proofs.Common.{◌≡◌, ◌+◌, ◌-◌, ◌<◌, ◌≤◌, List, [], ◌∷◌, ◌++◌, length, reverse, take, get_or, refl, sym, ◌∙◌, ap, subst, arith, take_all}
 use Rattle.std.proofs.lemmas.List.{take_more, reverse-append}
 use Rattle.history_model.specs.declared.history.HistoryItem.{HistoryItem}
 use Rattle.session_world.specs.Telling.{IsNewest}

@@ -1,6 +1,6 @@
 -- What an event leaves of another session: its scan is marked by what was released.
-use Rattle.std.proofs.Common.{◌≡◌, ℕ, true, false, List, Option, Some, None, refl, sym, ◌∙◌, ap, subst, true≢false}
-use Rattle.std.specs.Prelude.{option_map, is_some, IsSome}
+use Rattle.std.proofs.Common.{◌≡◌, ℕ, List, Option, Some, None, refl, sym, ◌∙◌, ap, true≢false}
+use Rattle.std.specs.Prelude.{option_map, IsSome}
 use Rattle.seg_words.specs.Types.{Shape}
 use Rattle.redo_model.specs.Records.{Record}
 use Rattle.history_laws.specs.Working as working

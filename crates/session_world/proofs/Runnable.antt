@@ -1,15 +1,14 @@
 -- What a script that was read says of its statements.
-use Rattle.std.proofs.Common.{◌≡◌, ℕ, zero, suc, ◌-◌, ◌<◌, ◌≤◌, Bool, true, false, cond, List, [], ◌∷◌, length, get_or, slice_get, Some, None, Option, refl, sym, ◌∙◌, ap, subst, arith}
+use Rattle.std.proofs.Common.{◌≡◌, ℕ, zero, suc, ◌-◌, ◌<◌, ◌≤◌, Bool, true, false, cond, List, [], ◌∷◌, length, get_or, slice_get, Some, sym, ◌∙◌, ap, subst, arith}
 use Rattle.std.proofs.lemmas.Option.{same_Some, none-some, slice_get-get_or}
 use Rattle.seg_words.proofs.Lemmas.{AllByRecursion}
 use Rattle.seg_words.specs.Types.{MOST_SESSIONS}
 use Rattle.script_text.specs.declared.statement.Statement.{Statement}
 use Rattle.script_text.specs.declared.statement.Statement.TheVariants as asked
-use Rattle.script_text.specs.declared.form.Forms.{Forms}
 use Rattle.session_step.specs.declared.forms.TheConstants.{BUILT_FORMS}
 use Rattle.script_text.specs.Forms.{is_open, is_ready}
 use Rattle.script_text.specs.Script.{Script}
-use Rattle.script_text.specs.Spelled.{IsStatement, IsScript, form_of, most_sessions}
+use Rattle.script_text.specs.Spelled.{IsStatement, IsScript, form_of}
 use Rattle.history_model.specs.History.{script_of}
 use Rattle.session_step.specs.Turning.{IsBuilt}
 use Rattle.session_world.specs.Scripts.{AreRunnable, AreScripts}

@@ -1,5 +1,5 @@
 -- Calls of a run, one after the other, of any store and any sink.
-use Rattle.std.proofs.Common.{◌≡◌, ℕ, ◌≤◌, refl, ◌∙◌, ap, le_refl, le_trans}
+use Rattle.std.proofs.Common.{◌≡◌, ℕ, refl, ◌∙◌, ap, le_refl, le_trans}
 use Rattle.std.specs.Prelude.{None, Result, Ok, Err, IsErrOf}
 use Rattle.disk_model.specs.Crash.{Meaning}
 use Rattle.disk_model.proofs.Going.{rose_later}

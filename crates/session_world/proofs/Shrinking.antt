@@ -1,9 +1,8 @@
 -- What the sessions in their seats shrink.
-use Rattle.std.proofs.Common.{◌≡◌, ◌≢◌, ℕ, zero, suc, ◌+◌, ◌-◌, ◌≤◌, ◌<◌, Bool, true, false, cond, eqb, eqb-true, List, [], ◌∷◌, ◌++◌, length, slice_get, Option, Some, None, refl, sym, ◌∙◌, ap, subst, inl, inr, arith}
+use Rattle.std.proofs.Common.{◌≡◌, ◌≢◌, ℕ, zero, suc, ◌+◌, ◌-◌, ◌<◌, Bool, true, false, cond, eqb, eqb-true, List, [], ◌∷◌, ◌++◌, length, slice_get, Option, Some, None, refl, sym, ◌∙◌, ap, subst, inl, inr, arith}
 use Rattle.std.specs.Prelude.{slice_index_or}
-use Rattle.seg_words.proofs.Lemmas.{cases_Bool, cases_eq, eqb-false}
+use Rattle.seg_words.proofs.Lemmas.{cases_eq, eqb-false}
 use Rattle.script_text.specs.declared.statement.Statement.{Statement}
-use Rattle.history_model.specs.History.{IsSession}
 use Rattle.scan_table.specs.Places.{place}
 use Rattle.scan_table.specs.declared.scan.OpenScan.{OpenScan}
 use Rattle.session_core.specs.declared.session.Doing.{Doing}

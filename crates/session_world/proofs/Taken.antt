@@ -1,11 +1,11 @@
 -- What the sink took, event by event.
-use Rattle.std.proofs.Common.{◌≡◌, ◌≢◌, ◌⊎◌, ℕ, suc, ◌+◌, List, [], ◌∷◌, ◌++◌, length, take, Option, None, Some, refl, sym, ◌∙◌, ap, subst, inl, inr, arith, append_assoc, append-nil, length-append, take_all}
+use Rattle.std.proofs.Common.{◌≡◌, ◌⊎◌, ℕ, suc, ◌+◌, List, [], ◌∷◌, ◌++◌, length, take, Option, None, Some, refl, sym, ◌∙◌, ap, subst, inl, inr, arith, append_assoc, length-append, take_all}
 use Rattle.std.specs.Prelude.{Result, Ok, Err}
 use Rattle.seg_words.proofs.Lemmas.{take-append-add}
 use Rattle.std.proofs.lemmas.List.{take-append-le}
 use Rattle.std.specs.Io.KnownBytes.{Appends}
 use Rattle.text_port.specs.Whole.{AppendsPrefix}
-use Rattle.text_port.proofs.Pieces.{appends_more, appends_none}
+use Rattle.text_port.proofs.Pieces.{appends_more}
 use Rattle.history_text.specs.declared.entry.Entry.{Entry}
 use Rattle.history_text.specs.Lines.{entry_text}
 use Rattle.history_model.specs.declared.history.HistoryItem.{HistoryItem}
@@ -16,7 +16,7 @@ use Rattle.session_step.specs.Telling.{Begins, begins_none, begins_one, Ends, en
 use Rattle.session_world.specs.declared.fault.RunFault.{RunFault}
 use Rattle.session_world.specs.declared.fault.RunFault.TheVariants as stops
 use Rattle.session_world.specs.Whole.{text_of, LacksNewest, IsPrinted}
-use Rattle.session_world.specs.Telling.{HasHanded, HandsNothing, HandsOut, HandsOutSince, HasTaken}
+use Rattle.session_world.specs.Telling.{HasHanded, HandsNothing, HandsOutSince, HasTaken}
 
 -- ---- pieces
 

@@ -1,6 +1,6 @@
 -- What an event of a session does to the run that it is of.
-use Rattle.std.proofs.Common.{◌≡◌, ◌≢◌, ◌⊎◌, ℕ, suc, ◌-◌, ◌≤◌, List, length, get_or, set, Option, None, Some, refl, sym, ◌∙◌, ap, subst, inl, inr, le_refl, arith}
-use Rattle.std.specs.Prelude.{Result, Ok, Err, OnOk, OnErr, IfOk, IfErr}
+use Rattle.std.proofs.Common.{◌≡◌, ◌≢◌, ℕ, suc, ◌-◌, ◌≤◌, List, length, get_or, set, Option, refl, sym, ◌∙◌, ap, subst, inl, inr, le_refl, arith}
+use Rattle.std.specs.Prelude.{Result, Ok, Err, OnErr, IfOk, IfErr}
 use Rattle.seg_words.proofs.Lemmas.{cases_eq}
 use Rattle.seg_words.specs.Types.{Shape}
 use Rattle.disk_model.specs.Crash.{Meaning}
@@ -9,10 +9,10 @@ use Rattle.session_laws.specs.Sessions.{own_of}
 use Rattle.script_text.specs.declared.statement.Statement.{Statement}
 use Rattle.history_model.specs.declared.history.HistoryItem.{HistoryItem}
 use Rattle.history_model.specs.History.{IsSession}
-use Rattle.session_model.specs.Sessions.{Session, HasEnded, session_since}
+use Rattle.session_model.specs.Sessions.{HasEnded, session_since}
 use Rattle.session_model.specs.Done.{tidy_none}
 use Rattle.session_model.specs.Worlds.{IsWorld}
-use Rattle.store_core.specs.Store.{Held, IsTrue}
+use Rattle.store_core.specs.Store.{Held}
 use Rattle.store_core.specs.Causes.{IsSoundFault}
 use Rattle.store_core.specs.declared.fault.StoreFault.{StoreFault}
 use Rattle.scan_table.specs.Places.{place}
@@ -25,14 +25,14 @@ use Rattle.session_step.specs.declared.session.Session.{Session as Told}
 use Rattle.session_step.specs.declared.session.Turn.{Turn}
 use Rattle.session_step.specs.declared.session.Turn.TheVariants as turns
 use Rattle.session_step.specs.Bindings.{row_of}
-use Rattle.session_step.specs.Stages.{Stage, stage, StandsAt, session_at, IsHeld, AreOthersMarked}
-use Rattle.session_step.specs.Telling.{Begins, begins_none, Ends, ends_none, Grows, IsEntryOf, OfNewest}
+use Rattle.session_step.specs.Stages.{stage, StandsAt, session_at, IsHeld, AreOthersMarked}
+use Rattle.session_step.specs.Telling.{begins_none, ends_none, Grows}
 use Rattle.session_step.specs.Stepping.{HasStepped, HasRun, HasNothing, done_part}
 use Rattle.session_world.specs.declared.events.Run.{Run}
 use Rattle.session_world.specs.declared.seats.Seat.{Seat}
 use Rattle.session_world.specs.Seats.{told_at, seen_in, AreShrinks}
 use Rattle.session_world.specs.Between.{IsRunAt}
-use Rattle.session_world.specs.Moving.{IsStill, Turns, HasMoved}
+use Rattle.session_world.specs.Moving.{Turns, HasMoved}
 use Rattle.session_world.proofs.Seating.{told_read, told_set, told_stays, seats_stay}
 use Rattle.session_world.proofs.Marking.{shaped_on, held_on, seen_on}
 use Rattle.session_world.proofs.Shrinking.{open_now}

@@ -95,3 +95,13 @@ turns_of script rounds = after_rounds (length script.sessions) rounds (after_sch
 pub record HasRunScript {D : Type 0} (meaning : Meaning D) (script : Script) (R0 : List Record) (old new : Held D) (before after : Option (List ℕ)) (result : Result (Unit {0}) RunFault) : Type 0 where
   pub rounds : ℕ
   pub ran : HasRunTurns meaning script.sessions R0 (turns_of script rounds) old new before after result
+
+-- ---- the same of a run that has its history, at Ok this one
+
+pub record HasRunTurnsOf {D : Type 0} (meaning : Meaning D) (scripts : List (List Statement)) (R0 : List Record) (all : List ℕ) (old new : Held D) (before after : Option (List ℕ)) (T : List HistoryItem) (result : Result (Unit {0}) RunFault) : Type 0 where
+  pub taken : HasRunTurns meaning scripts R0 all old new before after result
+  pub history : OnOk result (taken.run.history ≡ T)
+
+pub record HasRunIn {D : Type 0} (meaning : Meaning D) (script : Script) (R0 : List Record) (old new : Held D) (before after : Option (List ℕ)) (T : List HistoryItem) (result : Result (Unit {0}) RunFault) : Type 0 where
+  pub whole : HasRunScript meaning script R0 old new before after result
+  pub history : OnOk result (whole.ran.run.history ≡ T)

@@ -12,6 +12,6 @@ mod world;
 
 pub use events::{Run, step_run};
 pub use fault::RunFault;
-pub use running::{run_scripts, run_sessions};
+pub use running::{run_in, run_scripts, run_sessions};
 pub use seats::Seat;
 pub use world::{Parts, World};

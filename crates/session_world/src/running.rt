@@ -11,7 +11,7 @@ ghost use Rattle.session_model.specs.Laws.{NoneActive};
 ghost use Rattle.session_core.specs.Acting.{KeepsLoan};
 ghost use Rattle.session_world.specs.declared.events.Run.{Run as TheRun};
 ghost use Rattle.session_world.specs.Order.{after_schedule};
-ghost use Rattle.session_world.specs.Whole.{HasRunScript, HasRunTurns};
+ghost use Rattle.session_world.specs.Whole.{HasRunIn, HasRunScript, HasRunTurnsOf};
 ghost use Rattle.session_world.specs.Scripts.{AreScripts};
 ghost use Rattle.session_world.specs.Calling.{HasServed};
 ghost use Rattle.session_world.specs.Between.{IsFresh, IsIdle, IsSoFar};
@@ -50,7 +50,7 @@ pub fn run_sessions<D: Disk, K: Sink>(
 /// Makes all records stable, as a run has come to its end.
 pub fn close_run<D: Disk>(store: &mut Store<D>) -> Result<(), RunFault>
     requires unspent { store.old.fault ≡ None }
-    ensures closed { (scripts : List (List TheStatement)) (R0 : List Record) (called : List ℕ) (first : Held D) (before after : Option (List ℕ)) (run : TheRun) → IsIdle D.meaning scripts R0 called first store.old before after run → HasRunTurns D.meaning scripts R0 called first store.new before after result }
+    ensures closed { (scripts : List (List TheStatement)) (R0 : List Record) (called : List ℕ) (first : Held D) (before after : Option (List ℕ)) (run : TheRun) → IsIdle D.meaning scripts R0 called first store.old before after run → HasRunTurnsOf D.meaning scripts R0 called first store.new before after run.history result }
     ensures served { (faults : ℕ) → HasServed D.meaning store.old store.new faults faults result }
 {
     match store.flush_log() {
@@ -59,7 +59,36 @@ pub fn close_run<D: Disk>(store: &mut Store<D>) -> Result<(), RunFault>
     }
 }
 
-/// Runs a script in a run of which no session has started.
+/// Runs a script in a run of which no session has started: the items of its schedule, then turns of all sessions from 1 on, one
+/// event each, until each of them has ended; then all records are made stable. An item for 0 is passed over, as is one for a
+/// session that has ended. No session has a transaction as the run begins. At Ok the run has the history.
+pub fn run_in<D: Disk, K: Sink>(
+    alloc: Global,
+    store: &mut Store<D>,
+    run: &mut Run,
+    scripts: &Scripts,
+    sink: &mut K,
+) -> Result<(), RunFault>
+    requires unspent { store.old.fault ≡ None }
+    requires built { IsScript BUILT_FORMS scripts.now }
+    requires fresh { IsFresh (length scripts.now.sessions) run.old }
+    ensures ran { (R0 : List Record) → IsTrue D.meaning R0 store.old → NoneActive R0 → HasRunIn D.meaning scripts.now R0 store.old store.new (K.written sink.old) (K.written sink.new) run.new.history result }
+    ensures served { HasServed D.meaning store.old store.new (K.fault_count sink.old) (K.fault_count sink.new) result }
+{
+    match run_sessions(
+        alloc,
+        store,
+        run,
+        scripts.sessions(),
+        scripts.schedule(),
+        sink,
+    ) {
+        Ok(()) => close_run(store),
+        Err(fault) => Err(fault),
+    }
+}
+
+/// Runs a script in a run that nobody asks about afterwards.
 fn run_fresh<D: Disk, K: Sink>(
     alloc: Global,
     store: &mut Store<D>,
@@ -74,22 +103,10 @@ fn run_fresh<D: Disk, K: Sink>(
     ensures served { HasServed D.meaning store.old store.new (K.fault_count sink.old) (K.fault_count sink.new) result }
 {
     let mut run = run;
-    match run_sessions(
-        alloc,
-        store,
-        &mut run,
-        scripts.sessions(),
-        scripts.schedule(),
-        sink,
-    ) {
-        Ok(()) => close_run(store),
-        Err(fault) => Err(fault),
-    }
+    run_in(alloc, store, &mut run, scripts, sink)
 }
 
-/// Runs a script: the items of its schedule, then turns of all sessions from 1 on, one event each, until each of them has
-/// ended; then all records are made stable. An item for 0 is passed over, as is one for a session that has ended. No session has
-/// a transaction as the run begins.
+/// Runs a script, as `run_in` does.
 pub fn run_scripts<D: Disk, K: Sink>(
     alloc: Global,
     store: &mut Store<D>,

@@ -1,8 +1,4 @@
-use Rattle.std.proofs.Common.{sym, subst}
-use Rattle.std.specs.Prelude.{List, length}
 use Rattle.store_core.specs.declared.fault.StoreFault.TheVariants.{NoMemory}
-use Rattle.session_core.specs.declared.session.OpenShrink.{OpenShrink}
-use Rattle.session_world.specs.Seats.{AreShrinks}
 use Rattle.session_world.proofs.Turning.{failed_before}
 use Rattle.session_world.proofs.events.step_among.Goals as goal
 

@@ -23,7 +23,7 @@ returns-clause-closed g c =
     let now = c.close_run-closed.new in
     let r = c.close_run-closed.result in
     subst (λ (z : Lent g.row.D.Denot g.row.K.Denot). (R0 : List Record) (called : List ℕ) (first : Held g.row.D.Denot) (before : Option (List ℕ)) → IsIdle M z.script.sessions R0 called first z.store before (w z.sink) z.run → HasRunTurns M z.script.sessions R0 called first now.store before (w s.sink.now) r) c.self.view_is
-    (λ R0 called first before h. c.close_run-closed.ensures.closed s.parts.scripts.sessions R0 called first before (w s.sink.now) s.parts.run h)
+    (λ R0 called first before h. (c.close_run-closed.ensures.closed s.parts.scripts.sessions R0 called first before (w s.sink.now) s.parts.run h).taken)
 
 pub returns-clause-served : goal.returns-clause-served
 returns-clause-served g c =

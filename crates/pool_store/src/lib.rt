@@ -19,8 +19,6 @@ mod putting;
 mod refusing;
 mod sparing;
 mod store;
-#[cfg(test)]
-mod tests;
 mod undo;
 
 pub use asking::{Question, ask};

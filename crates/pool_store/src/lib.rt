@@ -19,6 +19,8 @@ mod putting;
 mod refusing;
 mod sparing;
 mod store;
+#[cfg(test)]
+mod tests;
 mod undo;
 
 pub use asking::{Question, ask};
